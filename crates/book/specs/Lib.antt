@@ -1,0 +1,4 @@
+pub mod Message
+pub mod Sides
+pub mod Walk
+pub mod Words

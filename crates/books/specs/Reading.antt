@@ -1,0 +1,53 @@
+-- Reading a row by code, side and rank (document 01, "Reading a row"). It writes nothing. Assumes nothing.
+use Prim.Native.Nat.{ℕ}
+use mathlib.Core.Bool.{Bool, true, false, cond, not, _&&_}
+use mathlib.Core.List.{List, [], _∷_}
+use lib.ListN.{length}
+use lib.IntN.{pos, subℕ}
+use lib.Dec.{ltb, eqb}
+use Rattle.wire.specs.Choice.{first}
+use Rattle.wire.specs.Number.{bias}
+use Rattle.slots.specs.declared.Slot.{Slot}
+use Rattle.slots.specs.declared.Slot.the-variants.{Held, Free, Full}
+use Rattle.book.specs.Message.{bidSide, listedSide, listedRank, listedCode}
+use Rattle.book.specs.Sides.{rowAt}
+use Rattle.book.specs.Walk.{Book}
+use Rattle.book.specs.declared.Row.{Row}
+use Rattle.books.specs.Table.{placeIn, unsoundAt, bookAt}
+use Rattle.books.specs.declared.RowRead.{RowRead}
+
+-- no slot has the code
+unfoldable pub noBook : Slot → Bool
+noBook (Held k) = false
+noBook (Free k) = true
+noBook Full = true
+
+abbrev pub sideOf : ℕ → Book → List Row
+sideOf n b = cond (eqb n bidSide) (b .bids) (b .offers)
+
+-- the side that is asked for, of the code's book
+abbrev pub sideIn : ℕ → ℕ → List ℕ → List Row
+sideIn c side t = sideOf side (bookAt (placeIn c t) t)
+
+-- "15 (bad code, side or rank), 4 (no book), 18, 4 (no such row), else 0"
+unfoldable pub readAnswer : ℕ → ℕ → ℕ → List ℕ → ℕ
+readAnswer c side rank t =
+    first
+    ((not (listedCode c && listedSide side && listedRank rank), 15)
+    ∷ (noBook (placeIn c t), 4)
+    ∷ (unsoundAt (placeIn c t) t, 18)
+    ∷ (ltb (length (sideIn c side t)) rank, 4)
+    ∷ [])
+    0
+
+-- "with any other answer price, quantity and orders are 0"
+abbrev pub rowRefused : ℕ → RowRead
+rowRefused n = record { answer = n; price = pos 0; quantity = 0; orders = 0 }
+
+-- "the row, its price signed as sent": the price word less 2,147,483,648
+abbrev pub rowShown : Row → RowRead
+rowShown r = record { answer = 0; price = subℕ (r .price) bias; quantity = r .quantity; orders = r .orders }
+
+unfoldable pub readRow : ℕ → ℕ → ℕ → List ℕ → RowRead
+readRow c side rank t =
+    cond (eqb (readAnswer c side rank t) 0) (rowShown (rowAt (sideIn c side t) rank)) (rowRefused (readAnswer c side rank t))

@@ -1,0 +1,104 @@
+-- The answers, in the order they are tried (document 01, "Answer numbers, in the order they are tried"). Assumes nothing.
+use Prim.Native.Nat.{ℕ}
+use mathlib.Core.Bool.{Bool, true, false, not, _&&_, _||_}
+use mathlib.Core.List.{List, [], _∷_}
+use lib.Dec.{ltb, leb, eqb}
+use Rattle.wire.specs.Choice.{first}
+use Rattle.books.specs.Table.{unsound, noSlot, misfits}
+use Rattle.feed.specs.Messages.{kind, onMarket, market, book, wrongSize, listed}
+use Rattle.feed.specs.Feeds.{is, deaf}
+use Rattle.feed.specs.Events.{Tables, State, Event, timeOf, News, Linked, More, Heartbeat, Message, news, onMessage}
+use Rattle.feed.specs.declared.Phase.{Phase}
+use Rattle.feed.specs.declared.Phase.the-variants.{WaitKey, WaitLogon, Refreshing, Live}
+use Rattle.feed.specs.declared.Kind.{Kind}
+use Rattle.feed.specs.declared.Kind.the-variants.{Session, Market}
+use Rattle.feed.specs.declared.Session.the-variants.{SendKey, Logon, Logout, Refresh, Complete, Request}
+use Rattle.feed.specs.declared.Feed.{Feed}
+use Rattle.feed.specs.declared.Link.the-variants.{Fresh, Resuming}
+
+-- an answer, by what the table says of the feed afterwards: unchanged; Lost; Lost and not whole; number advances, heard; as told of what is taken, heard
+pub data Answer : Type 0 where
+  Keep Lose Spoil Skip Take : ℕ → Answer
+
+unfoldable pub number : Answer → ℕ
+number (Keep n) = n
+number (Lose n) = n
+number (Spoil n) = n
+number (Skip n) = n
+number (Take n) = n
+
+-- "arrival in .."
+unfoldable pub arrives : News → Bool
+arrives (Linked link) = false
+arrives More = true
+arrives Heartbeat = true
+arrives (Message seq internal m) = true
+
+-- "Resuming needs whole and a last internal number of at least 1"
+unfoldable pub lacksNeed : Feed → News → Bool
+lacksNeed f (Linked Fresh) = false
+lacksNeed f (Linked Resuming) = not (f .whole && leb 1 (f .internal))
+lacksNeed f More = false
+lacksNeed f Heartbeat = false
+lacksNeed f (Message seq internal m) = false
+
+unfoldable pub isMore : News → Bool
+isMore (Linked link) = false
+isMore More = true
+isMore Heartbeat = false
+isMore (Message seq internal m) = false
+
+-- "After SeqNum 4,294,967,295 the next never comes"
+abbrev pub lastSeqNum : ℕ
+lastSeqNum = 4294967295
+
+unfoldable pub isNext : Feed → ℕ → Bool
+isNext f seq = eqb seq (f .next) && leb seq lastSeqNum
+
+-- WaitKey: "only 1105". WaitLogon: "only 1102". Refreshing: 1202, 203, market messages with internal number 0.
+-- Live: market messages, "internal number at least 1". "Allowed besides in each phase from WaitKey to Live": 1103
+unfoldable pub allowed : Kind → Phase → ℕ → Bool
+allowed (Session SendKey) p internal = is p WaitKey
+allowed (Session Logon) p internal = is p WaitLogon
+allowed (Session Refresh) p internal = is p Refreshing
+allowed (Session Complete) p internal = is p Refreshing
+allowed (Market d) p internal = (is p Refreshing && eqb internal 0) || (is p Live && leb 1 internal)
+allowed (Session Logout) p internal = not (deaf p)
+allowed (Session Request) p internal = false
+
+-- "One not above the last is Seen"
+unfoldable pub seen : Feed → Kind → ℕ → Bool
+seen f k internal = is (f .phase) Live && market k && leb internal (f .internal)
+
+-- a test of a book message
+unfoldable pub ofBook : Kind → Bool → Bool
+ofBook k b = onMarket book k && b
+
+-- a market message other than 53
+unfoldable pub passed : Kind → Bool
+passed k = onMarket (λ d. not (book d)) k
+
+-- the table of document 01 from its second row on (its first, 19, is newGiven's)
+unfoldable pub tests : Feed → Tables → ℕ → News → List (Bool × Answer)
+tests f x time n =
+    (ltb time (f .heard), Keep 10)
+    ∷ (arrives n && deaf (f .phase), Keep 11)
+    ∷ (lacksNeed f n, Keep 20)
+    ∷ (isMore n, Keep 3)
+    ∷ (onMessage (λ seq internal m. wrongSize m) n, Lose 12)
+    ∷ (onMessage (λ seq internal m. not (isNext f seq)) n, Lose 13)
+    ∷ (onMessage (λ seq internal m. not (allowed (kind m) (f .phase) internal)) n, Lose 14)
+    ∷ (onMessage (λ seq internal m. seen f (kind m) internal) n, Skip 1)
+    ∷ (onMessage (λ seq internal m. not (listed (kind m) m)) n, Spoil 15)
+    ∷ (onMessage (λ seq internal m. ofBook (kind m) (unsound m (x .books))) n, Spoil 18)
+    ∷ (onMessage (λ seq internal m. ofBook (kind m) (noSlot m (x .books))) n, Spoil 17)
+    ∷ (onMessage (λ seq internal m. ofBook (kind m) (misfits time m (x .books))) n, Spoil 16)
+    ∷ (onMessage (λ seq internal m. passed (kind m)) n, Take 2)
+    ∷ []
+
+-- the answer of the first test that passes, and Taken where none does
+abbrev pub answerTo : Feed → Tables → ℕ → News → Answer
+answerTo f x time n = first (tests f x time n) (Take 0)
+
+abbrev pub reply : State → Event → Answer
+reply s e = answerTo (s .feed) (s .tables) (timeOf e) (news e)

@@ -1,0 +1,6 @@
+pub mod Messages
+pub mod Feeds
+pub mod Events
+pub mod Answers
+pub mod Steps
+pub mod Program

@@ -1,0 +1,112 @@
+-- What becomes of the feed and the tables (document 01, "The feed", "Answer numbers": the column "Feed afterwards"). Assumes nothing.
+use Prim.Native.Nat.{ℕ, _+_}
+use mathlib.Core.Bool.{Bool, true, false, cond, _&&_}
+use mathlib.Core.List.{List}
+use lib.Dec.{leb}
+use Rattle.books.specs.Table.{booksAfter}
+use Rattle.feed.specs.Messages.{kind, market, statusOf, logonStatus, lastInternal}
+use Rattle.feed.specs.Feeds.{is, inPhase, nextIs, internalIs, heardAt, wholeIs, freshIs}
+use Rattle.feed.specs.Events.{Tables, clearedTables, State, Event, timeOf, News, Linked, More, Heartbeat, Message, news, offered}
+use Rattle.feed.specs.Answers.{Answer, Keep, Lose, Spoil, Skip, Take, number, reply}
+use Rattle.feed.specs.declared.Phase.the-variants.{WaitKey, WaitLogon, Refreshing, Live, Lost, Closed}
+use Rattle.feed.specs.declared.Kind.{Kind}
+use Rattle.feed.specs.declared.Kind.the-variants.{Session, Market}
+use Rattle.feed.specs.declared.Session.the-variants.{SendKey, Logon, Logout, Refresh, Complete, Request}
+use Rattle.feed.specs.declared.Datum.{Datum}
+use Rattle.feed.specs.declared.Datum.the-variants.{Book, Other}
+use Rattle.feed.specs.declared.Status.{Status}
+use Rattle.feed.specs.declared.Status.the-variants.{Opens, Refills, Stays, Closes, Unlisted}
+use Rattle.feed.specs.declared.Link.{Link}
+use Rattle.feed.specs.declared.Link.the-variants.{Fresh, Resuming}
+use Rattle.feed.specs.declared.Feed.{Feed}
+use Rattle.feed.specs.declared.Given.{Given}
+
+-- the feed of a state changed, its tables as they are
+abbrev pub onFeed : (Feed → Feed) → State → State
+onFeed g s = record { feed = g (s .feed); tables = s .tables }
+
+-- clearing: "zeroes all slots", and "sets the last internal number to 0 and whole to no"
+abbrev pub cleared : State → State
+cleared s = record { feed = internalIs 0 (wholeIs false (s .feed)); tables = clearedTables (s .tables) }
+
+-- "Entering Live sets whole"
+abbrev pub enterLive : Feed → Feed
+enterLive f = inPhase Live (wholeIs true f)
+
+abbrev pub isFresh : Link → Bool
+isFresh Fresh = true
+isFresh Resuming = false
+
+-- a connect "sets WaitKey, next SeqNum 1, last heard now"; the feed keeps "whether the last accepted connect was fresh"
+abbrev pub connected : Link → ℕ → Feed → Feed
+connected link time f = inPhase WaitKey (nextIs 1 (heardAt time (freshIs (isFresh link) f)))
+
+-- "0 or 2: Live, and after a fresh connect the table is cleared first. 101: cleared, Refreshing. 1, 3, 8: stays. 5, 6, 100, 104, 105: Closed"
+-- (a status not listed is answered 15 and never taken)
+unfoldable pub loggedOn : Status → State → State
+loggedOn Opens s = onFeed enterLive (cond (s .feed .fresh) (cleared s) s)
+loggedOn Refills s = onFeed (inPhase Refreshing) (cleared s)
+loggedOn Stays s = s
+loggedOn Closes s = onFeed (inPhase Closed) s
+loggedOn Unlisted s = s
+
+-- the tables after a market message that is taken or passed over at a time
+unfoldable pub tablesAfter : Datum → ℕ → List ℕ → Tables → Tables
+tablesAfter Book time m x = record { books = booksAfter time m (x .books) }
+tablesAfter Other time m x = x
+
+-- what a message does, but for its numbers and the time: 1105 "to WaitLogon"; 1102; 1103 "to Closed"; 1202 "stays";
+-- 203 "goes to Live and its number at 4 becomes the last internal number"; a market message (1101 and 1201 are answered 14 and never taken)
+unfoldable pub does : Kind → ℕ → List ℕ → State → State
+does (Session SendKey) time m s = onFeed (inPhase WaitLogon) s
+does (Session Logon) time m s = loggedOn (statusOf (logonStatus m)) s
+does (Session Logout) time m s = onFeed (inPhase Closed) s
+does (Session Refresh) time m s = s
+does (Session Complete) time m s = onFeed (λ f. enterLive (internalIs (lastInternal m) f)) s
+does (Session Request) time m s = s
+does (Market d) time m s = record { feed = s .feed; tables = tablesAfter d time m (s .tables) }
+
+-- the next SeqNum advances, and the message is heard
+abbrev pub advanced : ℕ → Feed → Feed
+advanced time f = heardAt time (nextIs (f .next + 1) f)
+
+-- "for a market message in Live that isn't Seen the last internal number"
+unfoldable pub counted : Kind → ℕ → Feed → Feed
+counted k internal f = cond (market k && is (f .phase) Live) (internalIs internal f) f
+
+-- what is taken: a connect; a heartbeat, which "advances no number"; a message (More is answered 3 and never taken)
+unfoldable pub taken : ℕ → News → State → State
+taken time (Linked link) s = onFeed (connected link time) s
+taken time More s = s
+taken time Heartbeat s = onFeed (heardAt time) s
+taken time (Message seq internal m) s = onFeed (λ f. advanced time (counted (kind m) internal f)) (does (kind m) time m s)
+
+-- "Feed afterwards". "Lost changes nothing else, but for whole"
+unfoldable pub act : Answer → ℕ → News → State → State
+act (Keep n) time x s = s
+act (Lose n) time x s = onFeed (inPhase Lost) s
+act (Spoil n) time x s = onFeed (λ f. inPhase Lost (wholeIs false f)) s
+act (Skip n) time x s = onFeed (advanced time) s
+act (Take n) time x s = taken time x s
+
+-- decide, then act
+abbrev pub step : State → Event → State
+step s e = act (reply s e) (timeOf e) (news e) s
+
+-- "Bytes used are the header plus MsgSize after answers 0, 1 and 2 .. and 0 after every other answer"
+abbrev pub accepted : ℕ → Bool
+accepted n = leb n 2
+
+unfoldable pub usedOf : ℕ → Event → ℕ
+usedOf n e = cond (accepted n) (offered e) 0
+
+-- all that a call hands back, and every word of what was lent
+pub record Outcome : Type 0 where
+  pub given : Given
+  pub tables : Tables
+
+unfoldable pub outcome : State → Event → Outcome
+outcome s e = record {
+  given = record { answer = number (reply s e); used = usedOf (number (reply s e)) e; feed = step s e .feed };
+  tables = step s e .tables;
+}

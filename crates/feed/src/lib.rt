@@ -1,0 +1,74 @@
+// One feed: its phases, the messages it takes in each, connects, arrivals and the badge (document 01, "The feed", "Answer numbers").
+
+// The phases, in the order in which they count from 0.
+pub enum Phase {
+    Idle,
+    WaitKey,
+    WaitLogon,
+    Refreshing,
+    Live,
+    Lost,
+    Closed,
+}
+
+// A feed. `next` is the next SeqNum, `internal` the last internal number, `heard` the last heard time, `limit` the silence limit;
+// `fresh` tells whether the last accepted connect was fresh.
+pub struct Feed {
+    pub phase: Phase,
+    pub next: u64,
+    pub internal: u64,
+    pub heard: u64,
+    pub limit: u64,
+    pub whole: bool,
+    pub fresh: bool,
+}
+
+// What a call hands back: document 01's answer number, the bytes used, and the feed after it.
+pub struct Given {
+    pub answer: u64,
+    pub used: usize,
+    pub feed: Feed,
+}
+
+// A connect is fresh or resuming.
+pub enum Link {
+    Fresh,
+    Resuming,
+}
+
+// The badges, in the order of their numbers from 0.
+pub enum Badge {
+    Stale,
+    Green,
+    Filling,
+}
+
+// The session's messages: 1105, 1102, 1103, 1202, 203; and 1101 and 1201, which only the client sends.
+pub enum Session {
+    SendKey,
+    Logon,
+    Logout,
+    Refresh,
+    Complete,
+    Request,
+}
+
+// The market messages: type 53, and those that are passed over.
+pub enum Datum {
+    Book,
+    Other,
+}
+
+pub enum Kind {
+    Session(Session),
+    Market(Datum),
+}
+
+// What a logon's status does: Live; Refreshing; stays; Closed; not listed.
+pub enum Status {
+    Opens,
+    Refills,
+    Stays,
+    Closes,
+    Unlisted,
+}

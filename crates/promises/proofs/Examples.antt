@@ -1,0 +1,158 @@
+-- The cases hold: of each list, no case is wrong. Assumes nothing.
+use mathlib.Core.Path.{_≡_, refl}
+use mathlib.Core.List.{[]}
+use Rattle.promises.specs.Checks.{wrong}
+use Rattle.promises.specs.Desk as Desk
+use Rattle.promises.specs.Section6 as Section6
+use Rattle.promises.specs.Answering as Answering
+use Rattle.promises.specs.Phases as Phases
+use Rattle.promises.specs.Statuses as Statuses
+use Rattle.promises.specs.Sizes as Sizes
+use Rattle.promises.specs.Entries as Entries
+use Rattle.promises.specs.Tables as Tables
+use Rattle.promises.specs.Traps as Traps
+use Rattle.promises.proofs.Computes.{computes}
+
+pub desk-hold : wrong Desk.desk ≡ []
+unfolding computes
+desk-hold = refl
+
+pub section6-hold : wrong Section6.section6 ≡ []
+unfolding computes
+section6-hold = refl
+
+pub newFeeds-hold : wrong Answering.newFeeds ≡ []
+unfolding computes
+newFeeds-hold = refl
+
+pub connects-hold : wrong Answering.connects ≡ []
+unfolding computes
+connects-hold = refl
+
+pub answers-hold : wrong Answering.answers ≡ []
+unfolding computes
+answers-hold = refl
+
+pub cuts-hold : wrong Answering.cuts ≡ []
+unfolding computes
+cuts-hold = refl
+
+pub order-hold : wrong Answering.order ≡ []
+unfolding computes
+order-hold = refl
+
+pub inIdle-hold : wrong Phases.inIdle ≡ []
+unfolding computes
+inIdle-hold = refl
+
+pub inWaitKey-hold : wrong Phases.inWaitKey ≡ []
+unfolding computes
+inWaitKey-hold = refl
+
+pub inWaitLogon-hold : wrong Phases.inWaitLogon ≡ []
+unfolding computes
+inWaitLogon-hold = refl
+
+pub inRefreshing-hold : wrong Phases.inRefreshing ≡ []
+unfolding computes
+inRefreshing-hold = refl
+
+pub inLive-hold : wrong Phases.inLive ≡ []
+unfolding computes
+inLive-hold = refl
+
+pub inLost-hold : wrong Phases.inLost ≡ []
+unfolding computes
+inLost-hold = refl
+
+pub inClosed-hold : wrong Phases.inClosed ≡ []
+unfolding computes
+inClosed-hold = refl
+
+pub whole-hold : wrong Phases.whole ≡ []
+unfolding computes
+whole-hold = refl
+
+pub logons-hold : wrong Statuses.logons ≡ []
+unfolding computes
+logons-hold = refl
+
+pub others-hold : wrong Statuses.others ≡ []
+unfolding computes
+others-hold = refl
+
+pub allStatuses-hold : wrong Statuses.allStatuses ≡ []
+unfolding computes
+allStatuses-hold = refl
+
+pub more-hold : wrong Sizes.more ≡ []
+unfolding computes
+more-hold = refl
+
+pub heartbeats-hold : wrong Sizes.heartbeats ≡ []
+unfolding computes
+heartbeats-hold = refl
+
+pub tiny-hold : wrong Sizes.tiny ≡ []
+unfolding computes
+tiny-hold = refl
+
+pub sizes-hold : wrong Sizes.sizes ≡ []
+unfolding computes
+sizes-hold = refl
+
+pub sequence-hold : wrong Sizes.sequence ≡ []
+unfolding computes
+sequence-hold = refl
+
+pub news-hold : wrong Entries.news ≡ []
+unfolding computes
+news-hold = refl
+
+pub changes-hold : wrong Entries.changes ≡ []
+unfolding computes
+changes-hold = refl
+
+pub deletes-hold : wrong Entries.deletes ≡ []
+unfolding computes
+deletes-hold = refl
+
+pub walks-hold : wrong Entries.walks ≡ []
+unfolding computes
+walks-hold = refl
+
+pub lengths-hold : wrong Tables.lengths ≡ []
+unfolding computes
+lengths-hold = refl
+
+pub slots-hold : wrong Tables.slots ≡ []
+unfolding computes
+slots-hold = refl
+
+pub sounds-hold : wrong Tables.sounds ≡ []
+unfolding computes
+sounds-hold = refl
+
+pub rows-hold : wrong Tables.rows ≡ []
+unfolding computes
+rows-hold = refl
+
+pub traps-hold : wrong Traps.traps ≡ []
+unfolding computes
+traps-hold = refl
+
+pub mornings-hold : wrong Traps.mornings ≡ []
+unfolding computes
+mornings-hold = refl
+
+pub programs-hold : wrong Traps.programs ≡ []
+unfolding computes
+programs-hold = refl
+
+pub programs2-hold : wrong Traps.programs2 ≡ []
+unfolding computes
+programs2-hold = refl
+
+pub badges-hold : wrong Traps.badges ≡ []
+unfolding computes
+badges-hold = refl

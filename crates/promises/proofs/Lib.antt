@@ -1,0 +1,3 @@
+pub mod Computes
+pub mod Examples
+pub mod Refused

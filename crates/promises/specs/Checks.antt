@@ -1,0 +1,78 @@
+-- What a case is and when it holds: runs of calls, rows read, badges asked. Assumes nothing.
+use Prim.Native.Nat.{ℕ}
+use Prim.Native.String.{String}
+use mathlib.Core.Bool.{Bool, true, false, cond, _&&_, Bool·beq}
+use mathlib.Core.List.{List, [], _∷_}
+use lib.IntN.{ℤ, pos, negsuc}
+use lib.Dec.{eqb}
+use Rattle.books.specs.Reading.{readRow}
+use Rattle.books.specs.declared.RowRead.{RowRead}
+use Rattle.feed.specs.Feeds.{phaseNo, badgeNo, badgeOf}
+use Rattle.feed.specs.Events.{State, Event}
+use Rattle.feed.specs.Steps.{Outcome, outcome}
+use Rattle.feed.specs.declared.Feed.{Feed}
+use Rattle.feed.specs.declared.Given.{Given}
+
+-- a case by its name, and whether it holds
+pub record Check : Type 0 where
+  pub name : String
+  pub holds : Bool
+
+-- the names of those that do not hold
+unfoldable pub wrong : List Check → List String
+wrong [] = []
+wrong (c ∷ cs) = cond (c .holds) (wrong cs) (c .name ∷ wrong cs)
+
+-- the same words, and as many
+unfoldable pub sameWords : List ℕ → List ℕ → Bool
+sameWords [] [] = true
+sameWords [] (y ∷ ys) = false
+sameWords (x ∷ xs) [] = false
+sameWords (x ∷ xs) (y ∷ ys) = eqb x y && sameWords xs ys
+
+unfoldable pub sameFeed : Feed → Feed → Bool
+sameFeed f g =
+    eqb (phaseNo (f .phase)) (phaseNo (g .phase)) && eqb (f .next) (g .next) && eqb (f .internal) (g .internal)
+    && eqb (f .heard) (g .heard) && eqb (f .limit) (g .limit) && Bool·beq (f .whole) (g .whole) && Bool·beq (f .fresh) (g .fresh)
+
+unfoldable pub sameGiven : Given → Given → Bool
+sameGiven a b = eqb (a .answer) (b .answer) && eqb (a .used) (b .used) && sameFeed (a .feed) (b .feed)
+
+-- a call, and all that it must hand back but for the feed and the tables
+pub record Call : Type 0 where
+  pub event : Event
+  pub answer : ℕ
+  pub used : ℕ
+
+-- where a run must end: the feed, every word of the table, and the badge's number at some times
+pub record End : Type 0 where
+  pub feed : Feed
+  pub words : List ℕ
+  pub badges : List (ℕ × ℕ)
+
+unfoldable pub sameBadges : Feed → List (ℕ × ℕ) → Bool
+sameBadges f [] = true
+sameBadges f (b ∷ bs) = eqb (badgeNo (badgeOf f (b .0))) (b .1) && sameBadges f bs
+
+unfoldable pub sameEnd : State → End → Bool
+sameEnd s e = sameFeed (s .feed) (e .feed) && sameWords (s .tables .books) (e .words) && sameBadges (s .feed) (e .badges)
+
+-- calls one after the other from a state, each answered as told, and the end as told
+unfoldable pub runs : State → List Call → End → Bool
+runs s [] e = sameEnd s e
+runs s (c ∷ cs) e =
+    let o : Outcome = outcome s (c .event) in
+    let rest : Bool = runs (record { feed = o .given .feed; tables = o .tables }) cs e in
+    eqb (o .given .answer) (c .answer) && eqb (o .given .used) (c .used) && rest
+
+unfoldable pub sameNumber : ℤ → ℤ → Bool
+sameNumber (pos m) (pos n) = eqb m n
+sameNumber (pos m) (negsuc n) = false
+sameNumber (negsuc m) (pos n) = false
+sameNumber (negsuc m) (negsuc n) = eqb m n
+
+-- a row read out of a table
+unfoldable pub reads : List ℕ → ℕ → ℕ → ℕ → RowRead → Bool
+reads t c side rank told =
+    let r : RowRead = readRow c side rank t in
+    eqb (r .answer) (told .answer) && sameNumber (r .price) (told .price) && eqb (r .quantity) (told .quantity) && eqb (r .orders) (told .orders)

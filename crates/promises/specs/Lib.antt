@@ -1,0 +1,12 @@
+pub mod Checks
+pub mod Build
+pub mod Desk
+pub mod Section6
+pub mod Answering
+pub mod Phases
+pub mod Statuses
+pub mod Sizes
+pub mod Entries
+pub mod Tables
+pub mod Traps
+pub mod Refusals

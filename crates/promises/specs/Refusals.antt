@@ -1,0 +1,27 @@
+-- Which answers a call can have, and what becomes of the feed where it is not accepted (document 01, "Answer numbers"). Assumes nothing.
+use Prim.Native.Nat.{ℕ}
+use mathlib.Core.Bool.{false, cond}
+use mathlib.Core.List.{List, [], _∷_}
+use Rattle.wire.specs.Choice.{oneOf}
+use Rattle.feed.specs.Feeds.{inPhase, wholeIs}
+use Rattle.feed.specs.Events.{State, Event, Connect, Arrive, Cut}
+use Rattle.feed.specs.Steps.{Outcome}
+use Rattle.feed.specs.declared.Phase.the-variants.{Lost}
+use Rattle.feed.specs.declared.Feed.{Feed}
+
+-- the answers of a connect, of an arrival of bytes, and of a message already cut, which is never More
+unfoldable pub answersTo : Event → List ℕ
+answersTo (Connect link time) = 10 ∷ 20 ∷ 0 ∷ []
+answersTo (Arrive bytes time) = 10 ∷ 11 ∷ 3 ∷ 12 ∷ 13 ∷ 14 ∷ 1 ∷ 15 ∷ 18 ∷ 17 ∷ 16 ∷ 2 ∷ 0 ∷ []
+answersTo (Cut seq internal m time) = 10 ∷ 11 ∷ 12 ∷ 13 ∷ 14 ∷ 1 ∷ 15 ∷ 18 ∷ 17 ∷ 16 ∷ 2 ∷ 0 ∷ []
+
+-- the column "Feed afterwards" for the answers other than 0, 1 and 2: unchanged; Lost; Lost and not whole
+unfoldable pub feedRefused : ℕ → Feed → Feed
+feedRefused n f =
+    cond (oneOf n (10 ∷ 11 ∷ 20 ∷ 3 ∷ [])) f
+    (cond (oneOf n (12 ∷ 13 ∷ 14 ∷ [])) (inPhase Lost f)
+    (inPhase Lost (wholeIs false f)))
+
+-- all that a call that is not accepted hands back: no byte is used, and every word is as it was
+abbrev pub refusal : ℕ → State → Outcome
+refusal n s = record { given = record { answer = n; used = 0; feed = feedRefused n (s .feed) }; tables = s .tables }
