@@ -2,3 +2,4 @@ pub mod Message
 pub mod Sides
 pub mod Walk
 pub mod Words
+pub mod Arrays

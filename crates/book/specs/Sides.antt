@@ -1,18 +1,16 @@
 -- A side, best row first, and what an entry makes of it (document 01, "Entries, against a side of n rows"). Assumes nothing.
 use Prim.Native.Nat.{ℕ, _+_, _-_}
-use mathlib.Core.Bool.{Bool, cond, not, _&&_, _||_}
+use mathlib.Core.Bool.{Bool, false, cond, not, _&&_, _||_}
 use mathlib.Core.List.{List, [], _∷_, _++_}
 use mathlib.Core.Option.{Option, none, some}
 use lib.ListN.{length, take, drop, getD, set}
 use lib.Dec.{ltb, leb, eqb}
 use Rattle.wire.specs.Choice.{pick}
 use Rattle.book.specs.Message.{new, change, delete, depth, listedRank}
+use Rattle.book.specs.declared.Way.{Way}
+use Rattle.book.specs.declared.Way.the-variants.{Bid, Offer}
 use Rattle.book.specs.declared.Row.{Row}
 use Rattle.book.specs.declared.Entry.{Entry}
-
--- the two sides
-pub data Way : Type 0 where
-  Bid Offer : Way
 
 -- price a is strictly better than price b
 unfoldable pub better : Way → ℕ → ℕ → Bool
@@ -56,18 +54,27 @@ deleteFits p s = leb p (length s)
 unfoldable pub deleteRows : ℕ → List Row → List Row
 deleteRows p s = take (p - 1) s ++ drop p s
 
--- the side where the entry fits, and none where it does not
-abbrev pub ifFits : Bool → List Row → Option (List Row)
-ifFits b s = cond b (some s) none
-
--- a side after an entry at a rank from 1 to 10; what is not listed fits nowhere (and answer 15 has come before)
-unfoldable pub onSide : Way → Entry → List Row → Option (List Row)
-onSide w e s =
-    cond (listedRank (e .level))
-    (pick (e .action)
-    ((new, ifFits (newFits w (e .level) (e .row) s) (newRows (e .level) (e .row) s))
-    ∷ (change, ifFits (changeFits (e .level) (e .row) s) (changeRows (e .level) (e .row) s))
-    ∷ (delete, ifFits (deleteFits (e .level) s) (deleteRows (e .level) s))
+-- whether an entry at a rank from 1 to 10 fits a side; what is not listed fits nowhere (and answer 15 has come before)
+unfoldable pub fits : Way → Entry → List Row → Bool
+fits w e s =
+    listedRank (e .level)
+    && pick (e .action)
+    ((new, newFits w (e .level) (e .row) s)
+    ∷ (change, changeFits (e .level) (e .row) s)
+    ∷ (delete, deleteFits (e .level) s)
     ∷ [])
-    none)
-    none
+    false
+
+-- the side after an entry that fits
+unfoldable pub rowsAfter : Entry → List Row → List Row
+rowsAfter e s =
+    pick (e .action)
+    ((new, newRows (e .level) (e .row) s)
+    ∷ (change, changeRows (e .level) (e .row) s)
+    ∷ (delete, deleteRows (e .level) s)
+    ∷ [])
+    s
+
+-- the side after an entry, and none where it does not fit
+unfoldable pub onSide : Way → Entry → List Row → Option (List Row)
+onSide w e s = cond (fits w e s) (some (rowsAfter e s)) none

@@ -6,7 +6,8 @@ use mathlib.Core.Option.{Option, none, some, Option·map, bind}
 use lib.Dec.{eqb}
 use Rattle.wire.specs.Choice.{pick}
 use Rattle.book.specs.Message.{bidSide, offerSide, clear, entries}
-use Rattle.book.specs.Sides.{Bid, Offer, onSide}
+use Rattle.book.specs.Sides.{onSide}
+use Rattle.book.specs.declared.Way.the-variants.{Bid, Offer}
 use Rattle.book.specs.declared.Row.{Row}
 use Rattle.book.specs.declared.Entry.{Entry}
 

@@ -8,7 +8,9 @@ use Rattle.wire.specs.Choice.{all}
 use Rattle.wire.specs.Number.{word32}
 use Rattle.slots.specs.Slots.{blocks, flat}
 use Rattle.book.specs.Message.{depth}
-use Rattle.book.specs.Sides.{Way, Bid, Offer, better, noRow}
+use Rattle.book.specs.Sides.{better, noRow}
+use Rattle.book.specs.declared.Way.{Way}
+use Rattle.book.specs.declared.Way.the-variants.{Bid, Offer}
 use Rattle.book.specs.Walk.{Book}
 use Rattle.book.specs.declared.Row.{Row}
 

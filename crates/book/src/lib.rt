@@ -1,4 +1,19 @@
 // One book: rows, two sides, the entries of a book message (document 01, "One unit", "The book table", "Entries, against a side of n rows").
+ghost use mathlib.Core.Path.{_≡_};
+ghost use mathlib.Core.List.{[]};
+ghost use Prim.Native.Nat.{_+_, _≤_, _<_, min};
+ghost use lib.ListN.{set};
+ghost use mathlib.Core.Bool.{true, _||_};
+ghost use lib.Dec.{leb, ltb};
+ghost use Rattle.book.specs.Message.{depth, new};
+ghost use Rattle.book.specs.Sides.{better, noRow, newRows, deleteRows, fits, rowsAfter};
+ghost use Rattle.book.specs.Arrays.{live, asSide, Padded, fitsAt};
+
+// The two sides.
+pub enum Way {
+    Bid,
+    Offer,
+}
 
 // A row of a side. The price is the price word: the price sent, plus 2,147,483,648.
 pub struct Row {
@@ -7,10 +22,181 @@ pub struct Row {
     pub orders: u64,
 }
 
+// A side of n rows, best first; the rows behind them are zero.
+pub struct Side {
+    pub n: usize,
+    pub rows: [Row; 10],
+}
+
 // An entry of a book message, its numbers as sent but for the price, which is the row's price word.
 pub struct Entry {
     pub row: Row,
     pub side: u64,
-    pub level: u64,
+    pub level: usize,
     pub action: u64,
+}
+
+// What the walk hands back: 0 and the sides after the last entry, or 16.
+pub struct Walked {
+    pub answer: u64,
+    pub bids: Side,
+    pub offers: Side,
+}
+
+// The row that stands beyond the count.
+fn zero_row() -> Row
+    ensures { λ r. ⌜ r ≡ noRow ⌝ }
+{
+    Row {
+        price: 0,
+        quantity: 0,
+        orders: 0,
+    }
+}
+
+// A side of no rows.
+pub fn empty_side() -> Side
+    ensures { λ r. ⌜ r ≡ asSide [] ⌝ }
+{
+    let none = zero_row();
+    Side {
+        n: 0,
+        rows: [none; 10],
+    }
+}
+
+// The lowest place that changes where a row is put in: behind the last row, or the last of ten.
+fn last_moved(n: usize) -> usize
+    requires { ⌜ n ≤ depth ⌝ }
+    ensures { λ r. ⌜ r ≡ min n 9 ⌝ }
+{
+    if n < 9 { n } else { 9 }
+}
+
+// The count after one row more, of which ten at most stay.
+fn one_more(n: usize) -> usize
+    requires { ⌜ n ≤ depth ⌝ }
+    ensures { λ r. ⌜ r ≡ min depth (n + 1) ⌝ }
+{
+    if n < 10 { n + 1 } else { 10 }
+}
+
+// A row put in at a place: the rows from there move down, and one pushed to place 11 is dropped.
+fn put_row(mut side: Side, at: usize, row: Row) -> Side
+    requires { ⌜ Padded side × (at ≤ side .n) × (at < depth) ⌝ }
+    ensures { λ r. ⌜ r ≡ asSide (newRows (at + 1) row (live side)) ⌝ }
+{
+    let n = side.n;
+    let mut i = last_moved(n);
+    while at < i {
+        let moved = side.rows[i - 1];
+        side.rows[i] = moved;
+        i -= 1;
+    }
+    side.rows[at] = row;
+    side.n = one_more(n);
+    side
+}
+
+// A row replaced.
+fn set_row(mut side: Side, at: usize, row: Row) -> Side
+    requires { ⌜ Padded side × (at < side .n) ⌝ }
+    ensures { λ r. ⌜ r ≡ asSide (set (live side) at row) ⌝ }
+{
+    side.rows[at] = row;
+    side
+}
+
+// A row taken out: the lower rows move up.
+fn drop_row(mut side: Side, at: usize) -> Side
+    requires { ⌜ Padded side × (at < side .n) ⌝ }
+    ensures { λ r. ⌜ r ≡ asSide (deleteRows (at + 1) (live side)) ⌝ }
+{
+    let last = side.n - 1;
+    let mut i = at;
+    while i < last {
+        let moved = side.rows[i + 1];
+        side.rows[i] = moved;
+        i += 1;
+    }
+    side.rows[last] = zero_row();
+    side.n = last;
+    side
+}
+
+// Whether price a is strictly better than price b.
+fn is_better(way: Way, a: u64, b: u64) -> bool
+    ensures { λ r. ⌜ r ≡ better way a b ⌝ }
+{
+    match way {
+        Way::Bid => b < a,
+        Way::Offer => a < b,
+    }
+}
+
+// Whether a price is strictly worse than that of the row above rank p, where there is one.
+fn is_below(way: Way, p: usize, above: u64, price: u64) -> bool
+    ensures { λ r. ⌜ r ≡ (leb p 1 || better way above price) ⌝ }
+{
+    if p <= 1 {
+        return true;
+    }
+    is_better(way, above, price)
+}
+
+// Whether a price is strictly better than that of the row that stands at rank p of n rows, where there is one.
+fn is_above(way: Way, n: usize, p: usize, old: u64, price: u64) -> bool
+    ensures { λ r. ⌜ r ≡ (ltb n p || better way price old) ⌝ }
+{
+    if n < p {
+        return true;
+    }
+    is_better(way, price, old)
+}
+
+// Whether a new row fits at rank p of n rows.
+fn new_fits(way: Way, n: usize, p: usize, above: u64, old: u64, price: u64) -> bool
+    requires { ⌜ n ≤ depth ⌝ }
+    ensures { λ r. ⌜ r ≡ fitsAt way new n p above old price ⌝ }
+{
+    if n + 1 < p {
+        return false;
+    }
+    if is_below(way, p, above, price) {
+        return is_above(way, n, p, old, price);
+    }
+    false
+}
+
+// Whether an entry fits at rank p of n rows, by the prices of the row above and of the row that stands there.
+fn fits_at(way: Way, action: u64, n: usize, p: usize, above: u64, old: u64, price: u64) -> bool
+    requires { ⌜ n ≤ depth ⌝ }
+    ensures { λ r. ⌜ r ≡ fitsAt way action n p above old price ⌝ }
+{
+    if action == 0 {
+        return new_fits(way, n, p, above, old, price);
+    }
+    if n < p {
+        return false;
+    }
+    if action == 1 {
+        return price == old;
+    }
+    action == 2
+}
+
+// A side after an entry that fits it.
+fn side_after(side: Side, way: Way, e: Entry) -> Side
+    requires { ⌜ Padded side × (fits way e (live side) ≡ true) ⌝ }
+    ensures { λ r. ⌜ r ≡ asSide (rowsAfter e (live side)) ⌝ }
+{
+    let at = e.level - 1;
+    let row = e.row;
+    if e.action == 0 {
+        return put_row(side, at, row);
+    }
+    if e.action == 1 {
+        return set_row(side, at, row);
+    }
+    drop_row(side, at)
 }

@@ -2,12 +2,14 @@
 use Prim.Native.Nat.{ℕ, _+_}
 use mathlib.Core.Bool.{Bool, true, false, cond, _&&_}
 use mathlib.Core.List.{List}
+use lib.ListN.{drop}
 use lib.Dec.{leb}
+use Rattle.wire.specs.Choice.{first}
 use Rattle.books.specs.Table.{booksAfter}
 use Rattle.feed.specs.Messages.{kind, market, statusOf, logonStatus, lastInternal}
 use Rattle.feed.specs.Feeds.{is, inPhase, nextIs, internalIs, heardAt, wholeIs, freshIs}
 use Rattle.feed.specs.Events.{Tables, clearedTables, State, Event, timeOf, News, Linked, More, Heartbeat, Message, news, offered}
-use Rattle.feed.specs.Answers.{Answer, Keep, Lose, Spoil, Skip, Take, number, reply}
+use Rattle.feed.specs.Answers.{Answer, Keep, Lose, Spoil, Skip, Take, number, tests, reply}
 use Rattle.feed.specs.declared.Phase.the-variants.{WaitKey, WaitLogon, Refreshing, Live, Lost, Closed}
 use Rattle.feed.specs.declared.Kind.{Kind}
 use Rattle.feed.specs.declared.Kind.the-variants.{Session, Market}
@@ -105,8 +107,16 @@ pub record Outcome : Type 0 where
   pub given : Given
   pub tables : Tables
 
-unfoldable pub outcome : State → Event → Outcome
-outcome s e = record {
-  given = record { answer = number (reply s e); used = usedOf (number (reply s e)) e; feed = step s e .feed };
-  tables = step s e .tables;
+-- what an answer to a call comes to
+unfoldable pub handed : Answer → State → Event → Outcome
+handed a s e = record {
+  given = record { answer = number a; used = usedOf (number a) e; feed = act a (timeOf e) (news e) s .feed };
+  tables = act a (timeOf e) (news e) s .tables;
 }
+
+unfoldable pub outcome : State → Event → Outcome
+outcome s e = handed (reply s e) s e
+
+-- the same from row k of the table on, where no row before it passes
+unfoldable pub outcomeFrom : ℕ → State → Event → Outcome
+outcomeFrom k s e = handed (first (drop k (tests (s .feed) (s .tables) (timeOf e) (news e))) (Take 0)) s e

@@ -11,7 +11,7 @@ use Rattle.wire.specs.declared.Unit.the-variants as unit
 use Rattle.wire.proofs.Choices.{first-may, each-has}
 use Rattle.feed.specs.Events.{State, Event, Connect, Arrive, Cut, timeOf, News, news, cutFrom, onMessage}
 use Rattle.feed.specs.Answers.{Answer, Keep, Lose, Spoil, Skip, Take, number, arrives, lacksNeed, isMore, tests, answerTo, reply}
-use Rattle.feed.specs.Steps.{act, accepted, usedOf, Outcome, outcome}
+use Rattle.feed.specs.Steps.{act, accepted, usedOf, Outcome, handed, outcome}
 use Rattle.promises.specs.Refusals.{answersTo, feedRefused, refusal}
 
 -- any two outcomes of a step are equal
@@ -31,7 +31,7 @@ arrival-listed s bytes time (unit.Message seq internal size) =
 
 -- the answer is one that document 01 has for such a call
 pub answer-listed : (s : State) (e : Event) → T (oneOf (outcome s e .given .answer) (answersTo e))
-unfolding outcome among answersTo oneOf number tests all arrives lacksNeed isMore onMessage news timeOf
+unfolding outcome handed among answersTo oneOf number tests all arrives lacksNeed isMore onMessage news timeOf
 answer-listed s (Connect link time) = first-may (among (Connect link time)) (tests (s .feed) (s .tables) time (News.Linked link)) (Take 0) tt tt
 answer-listed s (Arrive bytes time) = arrival-listed s bytes time (unitOf bytes)
 answer-listed s (Cut seq internal m time) =
@@ -49,18 +49,11 @@ reply-proper : (s : State) (e : Event) → T (proper (reply s e))
 unfolding proper oneOf tests all
 reply-proper s e = first-may proper (tests (s .feed) (s .tables) (timeOf e) (news e)) (Take 0) tt tt
 
--- what a call hands back by its answer
-handed : State → Event → Answer → Outcome
-handed s e a = record {
-  given = record { answer = number a; used = usedOf (number a) e; feed = act a (timeOf e) (news e) s .feed };
-  tables = act a (timeOf e) (news e) s .tables;
-}
-
 -- what is to be shown of an answer made of a number
 Refuses : State → Event → (ℕ → Answer) → ℕ → Type 0
-Refuses s e made n = accepted n ≡ false → handed s e (made n) ≡ refusal n s
+Refuses s e made n = accepted n ≡ false → handed (made n) s e ≡ refusal n s
 
-refuses : (s : State) (e : Event) (a : Answer) → T (proper a) → accepted (number a) ≡ false → handed s e a ≡ refusal (number a) s
+refuses : (s : State) (e : Event) (a : Answer) → T (proper a) → accepted (number a) ≡ false → handed a s e ≡ refusal (number a) s
 unfolding proper handed Refuses number act usedOf feedRefused oneOf
 refuses s e (Keep n) p = each-has (Refuses s e Keep) (10 ∷ 11 ∷ 20 ∷ 3 ∷ []) (λ h. refl, (λ h. refl, (λ h. refl, (λ h. refl, tt)))) n p
 refuses s e (Lose n) p = each-has (Refuses s e Lose) (12 ∷ 13 ∷ 14 ∷ []) (λ h. refl, (λ h. refl, (λ h. refl, tt))) n p

@@ -1,1 +1,6 @@
+pub mod Bools
 pub mod Choices
+pub mod Fields
+pub mod Fronts
+pub mod Signed
+pub mod Cases

@@ -1,7 +1,10 @@
 -- Numbers in bytes (document 01, "One unit"; 003, 3.1). Assumes nothing.
 use Prim.Native.Nat.{ℕ, zero, suc, _+_, _*_, _%_}
+use mathlib.Core.Bool.{Bool}
 use mathlib.Core.List.{List}
+use lib.Dec.{ltb}
 use lib.ListN.{getD}
+use Rattle.wire.specs.Choice.{all}
 
 -- Integers are little-endian: the number in the n bytes from `at` on (a byte beyond the end counts as 0)
 unfoldable pub field : ℕ → ℕ → List ℕ → ℕ
@@ -18,3 +21,7 @@ bias = 2147483648
 -- "price + 2,147,483,648", where the price is signed: of the 4 bytes read as an unsigned number, the sum modulo 4,294,967,296
 unfoldable pub biased : ℕ → ℕ
 biased raw = (raw + bias) % word32
+
+-- a list of bytes
+abbrev pub bytesOnly : List ℕ → Bool
+bytesOnly s = all (λ b. ltb b 256) s

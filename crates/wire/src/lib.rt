@@ -1,4 +1,10 @@
 // Numbers in bytes, and the unit at the front of a stream (document 01, "One unit").
+ghost use mathlib.Core.Path.{_≡_};
+ghost use Prim.Native.Nat.{_+_, _^_, _≤_, _<_};
+ghost use lib.ListN.{length, getD, drop};
+ghost use lib.IntN.{subℕ};
+ghost use Rattle.wire.specs.Number.{field, bias, biased as biasedOf};
+ghost use Rattle.wire.specs.Units.{unitOf, messageIn};
 
 // What stands at the front of a stream: more bytes are wanted; a header alone; a header and a message of `size` bytes behind it.
 pub enum Unit {
@@ -9,4 +15,166 @@ pub enum Unit {
         internal: u32,
         size: usize,
     },
+}
+
+// A byte, as a number of 64 bits.
+fn wide(x: u8) -> u64
+    ensures { λ r. ⌜ (r ≡ x) × (r < 256) ⌝ }
+{
+    x as u64
+}
+
+// The byte at i; a byte beyond the end counts as 0.
+pub fn byte_at(s: &[u8], i: usize) -> u64
+    ensures { λ r. ⌜ (r ≡ getD (now (s .entry)) i 0) × (r < 256) ⌝ }
+{
+    if i < s.len() { wide(s[i]) } else { 0 }
+}
+
+// The number in the n bytes from `at` on, all of them there.
+fn number_in(s: &[u8], at: usize, n: usize) -> u64
+    requires { ⌜ (n ≤ 8) × (at + n ≤ length (now s)) ⌝ }
+    ensures { λ r. ⌜ (r ≡ field at n (now (s .entry))) × (r < 256 ^ n) ⌝ }
+{
+    let mut v: u64 = 0;
+    let mut i = n;
+    while 0 < i {
+        i -= 1;
+        v = v * 256 + wide(s[at + i]);
+    }
+    v
+}
+
+// The number in the n bytes from `at` on; a byte beyond the end counts as 0.
+fn number_at(s: &[u8], at: usize, n: usize) -> u64
+    requires { ⌜ n ≤ 8 ⌝ }
+    ensures { λ r. ⌜ (r ≡ field at n (now (s .entry))) × (r < 256 ^ n) ⌝ }
+{
+    if s.len() <= at {
+        return 0;
+    }
+    let left = s.len() - at;
+    if left < n {
+        return number_in(s, at, left);
+    }
+    number_in(s, at, n)
+}
+
+// The number in the 2 bytes from `at` on, both of them there.
+pub fn u16_in(s: &[u8], at: usize) -> u64
+    requires { ⌜ at + 2 ≤ length (now s) ⌝ }
+    ensures { λ r. ⌜ (r ≡ field at 2 (now (s .entry))) × (r < 65536) ⌝ }
+{
+    number_in(s, at, 2)
+}
+
+// The number in the 4 bytes from `at` on, all of them there.
+pub fn u32_in(s: &[u8], at: usize) -> u64
+    requires { ⌜ at + 4 ≤ length (now s) ⌝ }
+    ensures { λ r. ⌜ (r ≡ field at 4 (now (s .entry))) × (r < 4294967296) ⌝ }
+{
+    number_in(s, at, 4)
+}
+
+// The number in the 8 bytes from `at` on, all of them there.
+pub fn u64_in(s: &[u8], at: usize) -> u64
+    requires { ⌜ at + 8 ≤ length (now s) ⌝ }
+    ensures { λ r. ⌜ (r ≡ field at 8 (now (s .entry))) × (r < 18446744073709551616) ⌝ }
+{
+    number_in(s, at, 8)
+}
+
+// The number in the 2 bytes from `at` on; a byte beyond the end counts as 0.
+pub fn u16_at(s: &[u8], at: usize) -> u64
+    ensures { λ r. ⌜ (r ≡ field at 2 (now (s .entry))) × (r < 65536) ⌝ }
+{
+    number_at(s, at, 2)
+}
+
+// The number in the 4 bytes from `at` on; a byte beyond the end counts as 0.
+pub fn u32_at(s: &[u8], at: usize) -> u64
+    ensures { λ r. ⌜ (r ≡ field at 4 (now (s .entry))) × (r < 4294967296) ⌝ }
+{
+    number_at(s, at, 4)
+}
+
+// The number in the 8 bytes from `at` on; a byte beyond the end counts as 0.
+pub fn u64_at(s: &[u8], at: usize) -> u64
+    ensures { λ r. ⌜ (r ≡ field at 8 (now (s .entry))) × (r < 18446744073709551616) ⌝ }
+{
+    number_at(s, at, 8)
+}
+
+// The word that a price is kept as, of the 4 bytes it came in.
+pub fn biased(raw: u64) -> u64
+    requires { ⌜ raw < 4294967296 ⌝ }
+    ensures { λ r. ⌜ (r ≡ biasedOf raw) × (r < 4294967296) ⌝ }
+{
+    (raw + 2147483648) % 4294967296
+}
+
+// The signed price that a word is kept for.
+pub fn price_of(word: u64) -> i64
+    requires { ⌜ word < 4294967296 ⌝ }
+    ensures { λ r. ⌜ r ≡ subℕ word bias ⌝ }
+{
+    word as i64 - 2147483648
+}
+
+// What stands at the front of a stream.
+pub fn unit_in(s: &[u8]) -> Unit
+    ensures { λ r. ⌜ r ≡ unitOf (now (s .entry)) ⌝ }
+{
+    if s.len() < 20 {
+        return Unit::More;
+    }
+    let length = u16_in(s, 0);
+    if length == 20 {
+        return Unit::Heartbeat;
+    }
+    if s.len() < 22 {
+        return Unit::More;
+    }
+    let size = u16_in(s, 20) as usize;
+    if s.len() < 20 + size {
+        return Unit::More;
+    }
+    let seq = u32_in(s, 4) as u32;
+    let internal = u32_in(s, 8) as u32;
+    Unit::Message {
+        seq,
+        internal,
+        size,
+    }
+}
+
+// The message of a unit, as the very part of the stream; of a message that runs past the end, what is there.
+pub fn message(s: &[u8], size: usize) -> &[u8]
+    ensures { λ r. ⌜ now r ≡ messageIn (now (s .entry)) size ⌝ }
+{
+    if s.len() < 20 {
+        return &s[..0];
+    }
+    if s.len() - 20 < size {
+        return &s[20..];
+    }
+    &s[20..20 + size]
+}
+
+// A place in a stream.
+pub struct Cursor {
+    pub at: usize,
+}
+
+impl Cursor {
+    // What stands at the place; past the end, more bytes are wanted.
+    pub fn read(self, s: &[u8]) -> Unit
+        ensures { λ r. ⌜ r ≡ unitOf (drop (self .at) (now (s .entry))) ⌝ }
+    {
+        let at = self.at;
+        if s.len() < at {
+            return Unit::More;
+        }
+        unit_in(&s[at..])
+    }
 }

@@ -1,0 +1,4 @@
+pub mod Shift
+pub mod Pads
+pub mod Moves
+pub mod Fits

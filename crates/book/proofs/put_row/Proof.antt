@@ -1,0 +1,31 @@
+use Prim.Native.Nat.{_-_}
+use Rattle.book.proofs.Moves.{moves, Putting}
+use Rattle.book.proofs.put_row.Statement.{statement}
+use Rattle.book.proofs.put_row.Tie as tie
+
+abbrev Inv-loop : tie.InvT-loop
+Inv-loop at row side₀ n i₀ side i = Putting at side₀ side i
+
+abbrev μ-loop : tie.MeasureT-loop
+μ-loop at row side₀ n i₀ side i = i - at
+
+pub put-row-spec : {M : Type 1} → statement M
+put-row-spec =
+    tie.close
+    (tie.spec
+    Inv-loop
+    μ-loop
+    (λ c κs. search moves)
+    (λ c. search moves)
+    (λ c. search moves)
+    (λ c. search moves)
+    (λ c. search moves)
+    (λ c. search moves)
+    (λ c. search moves)
+    (λ c. search moves)
+    (λ c. search moves)
+    (λ c. search moves)
+    (λ c. search moves)
+    (λ c. search moves)
+    (λ c κs. search moves)
+    (λ c. search moves))

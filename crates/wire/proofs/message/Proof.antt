@@ -1,0 +1,20 @@
+use Rattle.wire.proofs.Cases.{cases}
+use Rattle.wire.proofs.message.Statement.{statement}
+use Rattle.wire.proofs.message.Tie as tie
+
+pub message-spec : {M : Type 1} → statement M
+message-spec =
+    tie.close
+    (tie.spec
+    (λ c. search cases)
+    (λ c. search cases)
+    (λ c. search cases)
+    (λ c. search cases)
+    (λ c. search cases)
+    (λ c. search cases)
+    (λ c. search cases)
+    (λ c. search cases)
+    (λ c. search cases)
+    (λ c. search cases)
+    (λ c. search cases)
+    (λ c. search cases))
