@@ -22,14 +22,14 @@ entriesAt = 12
 abbrev pub entrySize : ℕ
 entrySize = 24
 
+-- an entry of the numbers that were sent
+abbrev pub entryOf : ℕ → ℕ → ℕ → ℕ → ℕ → ℕ → Entry
+entryOf quantity raw orders side level action =
+    record { row = record { price = biased raw; quantity = quantity; orders = orders }; side = side; level = level; action = action }
+
 -- "AggregateQuantity (8), Price (signed, 4), NumberOfOrders (4), Side (2), PriceLevel (1), UpdateAction (1), filler 4"
 abbrev pub entryAt : ℕ → List ℕ → Entry
-entryAt at s = record {
-  row = record { price = biased (field (at + 8) 4 s); quantity = field at 8 s; orders = field (at + 12) 4 s };
-  side = field (at + 16) 2 s;
-  level = field (at + 18) 1 s;
-  action = field (at + 19) 1 s;
-}
+entryAt at s = entryOf (field at 8 s) (field (at + 8) 4 s) (field (at + 12) 4 s) (field (at + 16) 2 s) (field (at + 18) 1 s) (field (at + 19) 1 s)
 
 -- n entries from `at` on, in 24-byte steps
 unfoldable pub entriesFrom : ℕ → ℕ → List ℕ → List Entry

@@ -1,13 +1,17 @@
 // One book: rows, two sides, the entries of a book message (document 01, "One unit", "The book table", "Entries, against a side of n rows").
 ghost use mathlib.Core.Path.{_≡_};
 ghost use mathlib.Core.List.{[]};
-ghost use Prim.Native.Nat.{_+_, _≤_, _<_, min};
-ghost use lib.ListN.{set};
+ghost use Prim.Native.Nat.{_+_, _-_, _≤_, _<_, min};
+ghost use lib.ListN.{length, set};
 ghost use mathlib.Core.Bool.{true, _||_};
 ghost use lib.Dec.{leb, ltb};
-ghost use Rattle.book.specs.Message.{depth, new};
+ghost use Rattle.book.specs.Message.{depth, new, entrySize, entryOf, entryAt, entriesFrom, listedEntry};
+ghost use Rattle.wire.specs.Number.{word32};
+ghost use Rattle.wire.specs.Choice.{all};
+ghost use mathlib.Core.Option.{none};
+ghost use Rattle.book.specs.Walk.{walk as walkBook};
 ghost use Rattle.book.specs.Sides.{better, noRow, newRows, deleteRows, fits, rowsAfter};
-ghost use Rattle.book.specs.Arrays.{live, asSide, Padded, fitsAt};
+ghost use Rattle.book.specs.Arrays.{live, asSide, Padded, fitsAt, bookIn, walkedOf};
 
 // The two sides.
 pub enum Way {
@@ -199,4 +203,184 @@ fn side_after(side: Side, way: Way, e: Entry) -> Side
         return set_row(side, at, row);
     }
     drop_row(side, at)
+}
+
+// An entry of the numbers that were sent.
+fn entry_of(quantity: u64, raw: u64, orders: u64, side: u64, level: u64, action: u64) -> Entry
+    requires { ⌜ (raw < word32) × (level < 256) ⌝ }
+    ensures { λ r. ⌜ r ≡ entryOf quantity raw orders side level action ⌝ }
+{
+    let price = wire::biased(raw);
+    Entry {
+        row: Row {
+            price,
+            quantity,
+            orders,
+        },
+        side,
+        level: level as usize,
+        action,
+    }
+}
+
+// The entry in the 24 bytes from `at` on, all of them there.
+fn whole_entry(part: &[u8], at: usize) -> Entry
+    requires { ⌜ at + entrySize ≤ length (now part) ⌝ }
+    ensures { λ r. ⌜ r ≡ entryAt at (now (part .entry)) ⌝ }
+{
+    let quantity = wire::u64_in(part, at);
+    let raw = wire::u32_in(part, at + 8);
+    let orders = wire::u32_in(part, at + 12);
+    let side = wire::u16_in(part, at + 16);
+    let level = wire::byte_at(part, at + 18);
+    let action = wire::byte_at(part, at + 19);
+    entry_of(quantity, raw, orders, side, level, action)
+}
+
+// The entry from `at` on, where a byte beyond the end counts as 0.
+fn torn_entry(part: &[u8], at: usize) -> Entry
+    requires { ⌜ at ≤ 6096 ⌝ }
+    ensures { λ r. ⌜ r ≡ entryAt at (now (part .entry)) ⌝ }
+{
+    let quantity = wire::u64_at(part, at);
+    let raw = wire::u32_at(part, at + 8);
+    let orders = wire::u32_at(part, at + 12);
+    let side = wire::u16_at(part, at + 16);
+    let level = wire::byte_at(part, at + 18);
+    let action = wire::byte_at(part, at + 19);
+    entry_of(quantity, raw, orders, side, level, action)
+}
+
+// The entry from `at` on.
+fn entry_at(part: &[u8], at: usize) -> Entry
+    requires { ⌜ at ≤ 6096 ⌝ }
+    ensures { λ r. ⌜ r ≡ entryAt at (now (part .entry)) ⌝ }
+{
+    if at + 24 <= part.len() {
+        return whole_entry(part, at);
+    }
+    torn_entry(part, at)
+}
+
+// Whether an entry's side, level and action are listed; of a clear, only its action is looked at.
+fn is_listed(e: Entry) -> bool
+    ensures { λ r. ⌜ r ≡ listedEntry e ⌝ }
+{
+    if e.action == 74 {
+        return true;
+    }
+    if 2 < e.action {
+        return false;
+    }
+    if 1 < e.side {
+        return false;
+    }
+    if e.level < 1 {
+        return false;
+    }
+    e.level <= 10
+}
+
+// Whether all of n entries are listed.
+pub fn all_listed(part: &[u8], n: usize) -> bool
+    requires { ⌜ n ≤ 255 ⌝ }
+    ensures { λ r. ⌜ r ≡ all listedEntry (entriesFrom n 0 (now (part .entry))) ⌝ }
+{
+    let mut i = 0;
+    while i < n {
+        let e = entry_at(part, 24 * i);
+        if is_listed(e) {
+            i += 1;
+        } else {
+            return false;
+        }
+    }
+    true
+}
+
+// A walk that ended at an entry that does not fit.
+fn misfit() -> Walked
+    ensures { λ r. ⌜ r ≡ walkedOf none ⌝ }
+{
+    Walked {
+        answer: 16,
+        bids: empty_side(),
+        offers: empty_side(),
+    }
+}
+
+// The row above a rank.
+fn place_above(level: usize) -> usize
+    ensures { λ r. ⌜ r ≡ level - 2 ⌝ }
+{
+    if level < 2 { 0 } else { level - 2 }
+}
+
+// The walk over n entries: each meets the sides as the entries before it left them, and the first that does not fit ends it.
+pub fn walk(mut bids: Side, mut offers: Side, part: &[u8], n: usize, time: u64) -> Walked
+    requires { ⌜ Padded bids × Padded offers × (n ≤ 255) ⌝ }
+    ensures { λ r. ⌜ r ≡ walkedOf (walkBook time (entriesFrom n 0 (now (part .entry))) (bookIn bids offers)) ⌝ }
+{
+    let mut i = 0;
+    'walk: loop {
+        if n <= i {
+            break 'walk Walked {
+                answer: 0,
+                bids,
+                offers,
+            };
+        }
+        let e = entry_at(part, 24 * i);
+        let row = e.row;
+        let level = e.level;
+        i += 1;
+        if e.action == 74 {
+            bids = empty_side();
+            offers = empty_side();
+            continue 'walk;
+        }
+        if level < 1 {
+            break 'walk misfit();
+        }
+        if 10 < level {
+            break 'walk misfit();
+        }
+        let up = place_above(level);
+        let place = level - 1;
+        if e.side == 0 {
+            let above = bids.rows[up];
+            let old = bids.rows[place];
+            if fits_at(
+                Way::Bid,
+                e.action,
+                bids.n,
+                level,
+                above.price,
+                old.price,
+                row.price,
+            ) {
+                bids = side_after(bids, Way::Bid, e);
+                continue 'walk;
+            }
+            break 'walk misfit();
+        }
+        if e.side == 1 {
+            let above = offers.rows[up];
+            let old = offers.rows[place];
+            if fits_at(
+                Way::Offer,
+                e.action,
+                offers.n,
+                level,
+                above.price,
+                old.price,
+                row.price,
+            ) {
+                offers = side_after(offers, Way::Offer, e);
+                continue 'walk;
+            }
+            break 'walk misfit();
+        }
+        break 'walk misfit();
+    }
 }
