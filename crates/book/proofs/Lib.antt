@@ -3,3 +3,10 @@ pub mod Pads
 pub mod Moves
 pub mod Fits
 pub mod Walks
+pub mod Loads
+pub mod Judges
+pub mod Writes
+pub mod Tells
+pub mod Rounds
+pub mod Orders
+pub mod Keeps

@@ -1,9 +1,9 @@
 -- Entries as they are read, judged and walked over (specs/Message, specs/Walk). Assumes nothing.
 use Prim.Native.Nat.{ℕ, zero, suc, _+_, _-_, _*_, _≤_, _<_}
-use mathlib.Core.Path.{_≡_, refl, ap, sym, _∙_}
+use mathlib.Core.Path.{_≡_, refl, ap, sym, _∙_, subst}
 use mathlib.Core.Bool.{Bool, true, false, cond}
 use mathlib.Core.List.{List, [], _∷_, _++_}
-use mathlib.Core.Option.{none, some, bind}
+use mathlib.Core.Option.{Option, none, some, Option·map, bind}
 use native.Mathlib.Omega.{arith}
 use lib.Dec.{leb, eqb}
 use lib.ListN.{length, take, drop, getD, length-set, length-append, length-take, length-drop}
@@ -14,7 +14,7 @@ use Rattle.wire.specs.Number.{field, biased}
 use Rattle.wire.proofs.Bools.{cond-same, split}
 use Rattle.book.specs.Message.{entryOf, entryAt, entriesFrom, listedEntry, listedSide, listedRank}
 use Rattle.book.specs.Sides.{noRow, newRows, changeRows, deleteRows, fits, rowsAfter, onSide}
-use Rattle.book.specs.Walk.{Book, emptyBook, onBook, walk}
+use Rattle.book.specs.Walk.{Book, emptyBook, withBids, withOffers, onBook, walk}
 use Rattle.book.specs.Arrays.{live, asSide, Padded, fitsAt, bookIn, walkedOf}
 use Rattle.book.specs.declared.Way.{Way}
 use Rattle.book.specs.declared.Way.the-variants.{Bid, Offer}
@@ -26,7 +26,7 @@ use Rattle.book.proofs.Pads.{live-n, live-of, padded-of, padded-is}
 use Rattle.book.proofs.Fits.{fits-is}
 
 -- one byte is a number of one byte
-one-byte : (at : ℕ) (s : List ℕ) → field at 1 s ≡ getD s at 0
+pub one-byte : (at : ℕ) (s : List ℕ) → field at 1 s ≡ getD s at 0
 unfolding field
 one-byte at s = omega arith
 
@@ -54,13 +54,13 @@ action-unknown : (x : ℕ) → 2 < x → oneOf x (0 ∷ 1 ∷ 2 ∷ []) ≡ fals
 unfolding oneOf
 action-unknown x h = rw (ne-eqb x 0 (λ e. omega arith), ne-eqb x 1 (λ e. omega arith), ne-eqb x 2 (λ e. omega arith))
 
-side-known : (x : ℕ) → x ≤ 1 → listedSide x ≡ true
+pub side-known : (x : ℕ) → x ≤ 1 → listedSide x ≡ true
 unfolding listedSide oneOf
 side-known zero h = refl
 side-known (suc zero) h = refl
 side-known (suc (suc x)) h = absurd (omega arith)
 
-side-unknown : (x : ℕ) → 1 < x → listedSide x ≡ false
+pub side-unknown : (x : ℕ) → 1 < x → listedSide x ≡ false
 unfolding listedSide oneOf
 side-unknown x h = rw (ne-eqb x 0 (λ e. omega arith), ne-eqb x 1 (λ e. omega arith))
 
@@ -261,3 +261,34 @@ pub no-walk : (b o : Side) → b ≡ asSide [] → o ≡ asSide [] → _≡_ {A 
 no-walk b o p q = rw (p, q)
 
 pub ruleset walking = (needs, no-walk, walk-starts, walk-ends, walk-clear, walk-bid, walk-offer, stop-zero, stop-eleven, stop-bid, stop-offer, stop-side, fits-told)
+
+-- at most ten rows a side, of a book and of what may be a book
+abbrev pub Few : Book → Type 0
+Few b = (length (b .bids) ≤ 10) × (length (b .offers) ≤ 10)
+
+abbrev FewIn : Option Book → Type 0
+FewIn none = Unit {0}
+FewIn (some b) = Few b
+
+few-on : (time : ℕ) (e : Entry) (b : Book) → Few b → FewIn (onBook time e b)
+unfolding onBook onSide pick
+few-on time e b h =
+    split FewIn (eqb (e .action) 74) _ _ (λ a. (omega arith, omega arith))
+    (λ a. split FewIn (eqb (e .side) 0) _ _
+    (λ d. split (λ (o : Option (List Row)). FewIn (Option·map (withBids b) o)) (fits Bid e (b .bids)) _ _ (λ f. (after-few e (b .bids) (h .0), h .1)) (λ f. tt))
+    (λ d. split FewIn (eqb (e .side) 1) _ _
+    (λ d. split (λ (o : Option (List Row)). FewIn (Option·map (withOffers b) o)) (fits Offer e (b .offers)) _ _ (λ f. (h .0, after-few e (b .offers) (h .1))) (λ f. tt))
+    (λ d. tt)))
+
+few-walk : (time : ℕ) (es : List Entry) (b : Book) → Few b → FewIn (walk time es b)
+unfolding walk bind
+few-walk time [] b h = h
+few-walk time (e ∷ es) b h = go (onBook time e b) (few-on time e b h) (few-walk time es)
+  where
+    go : (o : Option Book) → FewIn o → ((c : Book) → Few c → FewIn (walk time es c)) → FewIn (bind o (walk time es))
+    go none f k = tt
+    go (some c) f k = k c f
+
+-- the walk keeps at most ten rows a side
+pub walk-few : (time : ℕ) (es : List Entry) (b b′ : Book) → walk time es b ≡ some b′ → Few b → Few b′
+walk-few time es b b′ e h = subst FewIn e (few-walk time es b h)

@@ -3,3 +3,4 @@ pub mod Sides
 pub mod Walk
 pub mod Words
 pub mod Arrays
+pub mod Loading

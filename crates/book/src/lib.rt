@@ -2,7 +2,7 @@
 ghost use mathlib.Core.Path.{_≡_};
 ghost use mathlib.Core.List.{[]};
 ghost use Prim.Native.Nat.{_+_, _-_, _≤_, _<_, min};
-ghost use lib.ListN.{length, set};
+ghost use lib.ListN.{length, set, drop};
 ghost use mathlib.Core.Bool.{true, _||_};
 ghost use lib.Dec.{leb, ltb};
 ghost use Rattle.book.specs.Message.{depth, new, entrySize, entryOf, entryAt, entriesFrom, listedEntry};
@@ -12,6 +12,9 @@ ghost use mathlib.Core.Option.{none};
 ghost use Rattle.book.specs.Walk.{walk as walkBook};
 ghost use Rattle.book.specs.Sides.{better, noRow, newRows, deleteRows, fits, rowsAfter};
 ghost use Rattle.book.specs.Arrays.{live, asSide, Padded, fitsAt, bookIn, walkedOf};
+ghost use Rattle.slots.specs.Slots.{overlay};
+ghost use Rattle.book.specs.Words.{bookWidth, rowWidth, rowOf, rowWords, rowsFrom, sideWords, wordsOf, bounded, zeroRow, soundSide, sound};
+ghost use Rattle.book.specs.Loading.{sideFrom, soundRow};
 
 // The two sides.
 pub enum Way {
@@ -383,4 +386,143 @@ pub fn walk(mut bids: Side, mut offers: Side, part: &[u8], n: usize, time: u64) 
         }
         break 'walk misfit();
     }
+}
+
+// The row in the three words from `at` on.
+pub fn row_at(block: &[u64], at: usize) -> Row
+    requires { ⌜ at + rowWidth ≤ length (now block) ⌝ }
+    ensures { λ r. ⌜ r ≡ rowOf (drop at (now (block .entry))) ⌝ }
+{
+    Row {
+        price: block[at],
+        quantity: block[at + 1],
+        orders: block[at + 2],
+    }
+}
+
+// A side of n rows, its ten rows from word `base` on.
+pub fn load_side(block: &[u64], base: usize, n: usize) -> Side
+    requires { ⌜ base + 30 ≤ length (now block) ⌝ }
+    ensures { λ r. ⌜ r ≡ sideFrom base n (now (block .entry)) ⌝ }
+{
+    let none = zero_row();
+    let mut rows = [none; 10];
+    let mut k = 0;
+    while k < 10 {
+        rows[k] = row_at(block, base + 3 * k);
+        k += 1;
+    }
+    Side { n, rows }
+}
+
+// Whether a row is zero.
+fn is_zero(row: Row) -> bool
+    ensures { λ r. ⌜ r ≡ zeroRow row ⌝ }
+{
+    if row.price != 0 {
+        return false;
+    }
+    if row.quantity != 0 {
+        return false;
+    }
+    row.orders == 0
+}
+
+// Whether a row's price and orders words are below 4,294,967,296.
+fn is_bounded(row: Row) -> bool
+    ensures { λ r. ⌜ r ≡ bounded row ⌝ }
+{
+    if 4294967296 <= row.price {
+        return false;
+    }
+    row.orders < 4294967296
+}
+
+// Whether row i of a side's ten is sound where n are used: an unused row is zero, a used one bounded and strictly worse than the row above.
+fn row_sound(way: Way, n: usize, i: usize, above: u64, row: Row) -> bool
+    ensures { λ r. ⌜ r ≡ soundRow way n i above row ⌝ }
+{
+    if n <= i {
+        return is_zero(row);
+    }
+    if is_bounded(row) {
+        if i == 0 {
+            return true;
+        }
+        return is_better(way, above, row.price);
+    }
+    false
+}
+
+// Whether a side is sound: its ten rows from word `base` on, of which as many are used as its count says.
+fn side_sound(block: &[u64], base: usize, count: u64, way: Way) -> bool
+    requires { ⌜ base + 30 ≤ length (now block) ⌝ }
+    ensures { λ r. ⌜ r ≡ soundSide way count (rowsFrom base (now (block .entry))) ⌝ }
+{
+    if 10 < count {
+        return false;
+    }
+    let n = count as usize;
+    let mut above = 0;
+    let mut i = 0;
+    while i < 10 {
+        let row = row_at(block, base + 3 * i);
+        if row_sound(way, n, i, above, row) {
+            above = row.price;
+            i += 1;
+        } else {
+            return false;
+        }
+    }
+    true
+}
+
+// Whether a book is sound.
+pub fn is_sound(block: &[u64]) -> bool
+    requires { ⌜ length (now block) ≡ bookWidth ⌝ }
+    ensures { λ r. ⌜ r ≡ sound (now (block .entry)) ⌝ }
+{
+    if block[3] != 0 {
+        return false;
+    }
+    if side_sound(block, 4, block[1], Way::Bid) {
+        return side_sound(block, 34, block[2], Way::Offer);
+    }
+    false
+}
+
+// A row written to the three words from `at` on.
+fn write_row(block: &mut [u64], at: usize, row: Row)
+    requires { ⌜ at + rowWidth ≤ length (now block) ⌝ }
+    ensures { λ _. ⌜ now (block .exit) ≡ overlay at (rowWords row) (now (block .entry)) ⌝ }
+{
+    block[at] = row.price;
+    block[at + 1] = row.quantity;
+    block[at + 2] = row.orders;
+}
+
+// A side's ten rows written from word `base` on.
+fn write_side(block: &mut [u64], base: usize, side: Side)
+    requires { ⌜ (base + 30 ≤ length (now block)) × Padded side ⌝ }
+    ensures { λ _. ⌜ now (block .exit) ≡ overlay base (sideWords (live side)) (now (block .entry)) ⌝ }
+{
+    let mut i = 0;
+    while i < 10 {
+        let row = side.rows[i];
+        write_row(block, base + 3 * i, row);
+        i += 1;
+    }
+}
+
+// A book written to its words: code, counts, zero, bids, offers.
+pub fn write_book(block: &mut [u64], code: u64, bids: Side, offers: Side)
+    requires { ⌜ (length (now block) ≡ bookWidth) × Padded bids × Padded offers ⌝ }
+    ensures { λ _. ⌜ now (block .exit) ≡ wordsOf code (bookIn bids offers) ⌝ }
+{
+    block[0] = code;
+    block[1] = bids.n as u64;
+    block[2] = offers.n as u64;
+    block[3] = 0;
+    write_side(block, 4, bids);
+    write_side(block, 34, offers);
 }

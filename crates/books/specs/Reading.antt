@@ -1,8 +1,8 @@
 -- Reading a row by code, side and rank (document 01, "Reading a row"). It writes nothing. Assumes nothing.
-use Prim.Native.Nat.{ℕ}
+use Prim.Native.Nat.{ℕ, _+_, _-_, _*_}
 use mathlib.Core.Bool.{Bool, true, false, cond, not, _&&_}
 use mathlib.Core.List.{List, [], _∷_}
-use lib.ListN.{length}
+use lib.ListN.{length, drop}
 use lib.IntN.{pos, subℕ}
 use lib.Dec.{ltb, eqb}
 use Rattle.wire.specs.Choice.{first}
@@ -12,6 +12,7 @@ use Rattle.slots.specs.declared.Slot.the-variants.{Held, Free, Full}
 use Rattle.book.specs.Message.{bidSide, listedSide, listedRank, listedCode}
 use Rattle.book.specs.Sides.{rowAt}
 use Rattle.book.specs.Walk.{Book}
+use Rattle.book.specs.Words.{bidCount, offerCount, bidsAt, offersAt, rowWidth, rowOf, sound}
 use Rattle.book.specs.declared.Row.{Row}
 use Rattle.books.specs.Table.{placeIn, unsoundAt, bookAt}
 use Rattle.books.specs.declared.RowRead.{RowRead}
@@ -51,3 +52,13 @@ rowShown r = record { answer = 0; price = subℕ (r .price) bias; quantity = r .
 unfoldable pub readRow : ℕ → ℕ → ℕ → List ℕ → RowRead
 readRow c side rank t =
     cond (eqb (readAnswer c side rank t) 0) (rowShown (rowAt (sideIn c side t) rank)) (rowRefused (readAnswer c side rank t))
+
+-- the same out of a slot's words, as the code goes about it: of a side of n rows from a word on, and of a book
+unfoldable pub rowOfSide : ℕ → ℕ → ℕ → List ℕ → RowRead
+rowOfSide base n rank w = cond (ltb n rank) (rowRefused 4) (rowShown (rowOf (drop (base + rowWidth * (rank - 1)) w)))
+
+unfoldable pub rowOfBook : ℕ → ℕ → List ℕ → RowRead
+rowOfBook side rank w =
+    cond (sound w)
+    (cond (eqb side bidSide) (rowOfSide bidsAt (bidCount w) rank w) (rowOfSide offersAt (offerCount w) rank w))
+    (rowRefused 18)

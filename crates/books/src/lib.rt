@@ -1,4 +1,20 @@
 // The lent table of books (document 01, "The book table"): a book message on it, and reading a row out of it.
+ghost use mathlib.Core.Path.{_≡_};
+ghost use mathlib.Core.Bool.{true, false, cond, _&&_};
+ghost use Prim.Native.Nat.{_+_, _-_, _*_, _<_, _≤_};
+ghost use lib.ListN.{length, drop};
+ghost use lib.Dec.{eqb};
+ghost use Rattle.slots.specs.Slots.{slotCount};
+ghost use Rattle.book.specs.Message.{entriesAt, entriesFrom, listedCode, listedSide, listedRank};
+ghost use Rattle.book.specs.Words.{rowOf};
+ghost use Rattle.wire.specs.Number.{word32};
+ghost use Rattle.book.specs.Walk.{walk as walkBook};
+ghost use Rattle.book.specs.Arrays.{Padded, bookIn};
+ghost use Rattle.books.specs.Table.{placeIn, block as blockOf, bookAnswer, booksAfter};
+ghost use Rattle.books.specs.Turns.{met, settled, slotMet, within, placeMet};
+ghost use Rattle.books.specs.Reading.{rowRefused, rowOfSide, rowOfBook, readRow};
+use book::Side;
+use slots::Slot;
 
 // What reading a row gives: the answer, and with answer 0 the row, its price signed as sent.
 pub struct RowRead {
@@ -6,4 +22,215 @@ pub struct RowRead {
     pub price: i64,
     pub quantity: u64,
     pub orders: u64,
+}
+
+// The book of two sides after n entries, written over a slot's words: 0, or 16 and nothing is written.
+fn walked(
+    words: &mut [u64],
+    code: u64,
+    bids: Side,
+    offers: Side,
+    part: &[u8],
+    n: usize,
+    time: u64,
+) -> u64
+    requires { ⌜ (length (now words) ≡ 64) × Padded bids × Padded offers × (n ≤ 255) ⌝ }
+    ensures { λ r. ⌜ met r (now (words .exit)) ≡ settled code (walkBook time (entriesFrom n 0 (now (part .entry))) (bookIn bids offers)) (now (words .entry)) ⌝ }
+{
+    let w = book::walk(bids, offers, part, n, time);
+    if w.answer == 0 {
+        let bids_after = w.bids;
+        let offers_after = w.offers;
+        book::write_book(words, code, bids_after, offers_after);
+        return 0;
+    }
+    16
+}
+
+// A code's own slot after n entries: 18 where its book is not sound.
+fn in_own(words: &mut [u64], code: u64, part: &[u8], n: usize, time: u64) -> u64
+    requires { ⌜ (length (now words) ≡ 64) × (n ≤ 255) ⌝ }
+    ensures { λ r. ⌜ met r (now (words .exit)) ≡ slotMet true code time (entriesFrom n 0 (now (part .entry))) (now (words .entry)) ⌝ }
+{
+    if book::is_sound(words) {
+        let bids = book::load_side(words, 4, words[1] as usize);
+        let offers = book::load_side(words, 34, words[2] as usize);
+        return walked(words, code, bids, offers, part, n, time);
+    }
+    18
+}
+
+// A free slot after n entries: whatever its words are, its book starts empty.
+fn in_free(words: &mut [u64], code: u64, part: &[u8], n: usize, time: u64) -> u64
+    requires { ⌜ (length (now words) ≡ 64) × (n ≤ 255) ⌝ }
+    ensures { λ r. ⌜ met r (now (words .exit)) ≡ slotMet false code time (entriesFrom n 0 (now (part .entry))) (now (words .entry)) ⌝ }
+{
+    walked(
+        words,
+        code,
+        book::empty_side(),
+        book::empty_side(),
+        part,
+        n,
+        time,
+    )
+}
+
+// One slot of the table after n entries: its 64 words are lent on, and no other word can be reached.
+fn in_slot(
+    table: &mut [u64],
+    k: usize,
+    own: bool,
+    code: u64,
+    part: &[u8],
+    n: usize,
+    time: u64,
+) -> u64
+    requires { ⌜ (k < slotCount 64 (length (now table))) × (n ≤ 255) ⌝ }
+    ensures { λ r. ⌜ met r (now (table .exit)) ≡ within k (now (table .entry)) (slotMet own code time (entriesFrom n 0 (now (part .entry))) (blockOf k (now (table .entry)))) ⌝ }
+{
+    let a = 64 * k;
+    let b = a + 64;
+    if own {
+        return in_own(&mut table[a..b], code, part, n, time);
+    }
+    in_free(&mut table[a..b], code, part, n, time)
+}
+
+// The table after n entries for a code: in the lowest slot with the code, else the lowest free one, else 17.
+fn placed(table: &mut [u64], code: u64, part: &[u8], n: usize, time: u64) -> u64
+    requires { ⌜ n ≤ 255 ⌝ }
+    ensures { λ r. ⌜ met r (now (table .exit)) ≡ placeMet (placeIn code (now (table .entry))) code time (entriesFrom n 0 (now (part .entry))) (now (table .entry)) ⌝ }
+{
+    let slot = slots::find(table, 64, code);
+    match slot {
+        Slot::Held(k) => in_slot(table, k, true, code, part, n, time),
+        Slot::Free(k) => in_slot(table, k, false, code, part, n, time),
+        Slot::Full => 17,
+    }
+}
+
+// Whether a code is one of 1 to 99,999.
+fn is_code(code: u64) -> bool
+    ensures { λ r. ⌜ r ≡ listedCode code ⌝ }
+{
+    if code < 1 {
+        return false;
+    }
+    code <= 99999
+}
+
+// The part of a message that begins at byte 12.
+fn entries_of(m: &[u8]) -> &[u8]
+    ensures { λ r. ⌜ now r ≡ drop entriesAt (now (m .entry)) ⌝ }
+{
+    if m.len() < 12 {
+        return &m[..0];
+    }
+    &m[12..]
+}
+
+// A book message on the table: 15, 18, 17, 16 or 0, in that order; only with 0 is anything written.
+pub fn take(table: &mut [u64], m: &[u8], time: u64) -> u64
+    ensures { λ r. ⌜ (r ≡ bookAnswer time (now (m .entry)) (now (table .entry)))
+        × (now (table .exit) ≡ cond (eqb r 0) (booksAfter time (now (m .entry)) (now (table .entry))) (now (table .entry))) ⌝ }
+{
+    let code = wire::u32_at(m, 4);
+    let n = wire::byte_at(m, 11) as usize;
+    let part = entries_of(m);
+    if is_code(code) {
+        if book::all_listed(part, n) {
+            if n == 0 {
+                return 0;
+            }
+            return placed(table, code, part, n, time);
+        }
+        return 15;
+    }
+    15
+}
+
+// What reading a row gives with any answer but 0.
+fn no_row(answer: u64) -> RowRead
+    ensures { λ r. ⌜ r ≡ rowRefused answer ⌝ }
+{
+    RowRead {
+        answer,
+        price: 0,
+        quantity: 0,
+        orders: 0,
+    }
+}
+
+// Whether code, side and rank are listed.
+fn is_asked(code: u64, side: u64, rank: u64) -> bool
+    ensures { λ r. ⌜ r ≡ (listedCode code && listedSide side && listedRank rank) ⌝ }
+{
+    if is_code(code) {
+        if 1 < side {
+            return false;
+        }
+        if rank < 1 {
+            return false;
+        }
+        return rank <= 10;
+    }
+    false
+}
+
+// A row of a side of n rows that begins at a word: 4 where there is no such row.
+fn row_of_side(words: &[u64], base: usize, n: u64, rank: u64) -> RowRead
+    requires { ⌜ (base + 30 ≤ length (now words)) × (1 ≤ rank) × (rank ≤ 10) × (rank ≤ n → rowOf (drop (base + 3 * (rank - 1)) (now words)) .price < word32) ⌝ }
+    ensures { λ r. ⌜ r ≡ rowOfSide base n rank (now (words .entry)) ⌝ }
+{
+    if n < rank {
+        return no_row(4);
+    }
+    let place = (rank - 1) as usize;
+    let row = book::row_at(words, base + 3 * place);
+    let price = wire::price_of(row.price);
+    RowRead {
+        answer: 0,
+        price,
+        quantity: row.quantity,
+        orders: row.orders,
+    }
+}
+
+// A row of the book in a slot's words: 18 where the book is not sound.
+fn row_of_book(words: &[u64], side: u64, rank: u64) -> RowRead
+    requires { ⌜ (length (now words) ≡ 64) × (1 ≤ rank) × (rank ≤ 10) ⌝ }
+    ensures { λ r. ⌜ r ≡ rowOfBook side rank (now (words .entry)) ⌝ }
+{
+    if book::is_sound(words) {
+        if side == 0 {
+            return row_of_side(words, 4, words[1], rank);
+        }
+        return row_of_side(words, 34, words[2], rank);
+    }
+    no_row(18)
+}
+
+// A row of the book in slot k of the table.
+fn row_in_slot(table: &[u64], k: usize, side: u64, rank: u64) -> RowRead
+    requires { ⌜ (k < slotCount 64 (length (now table))) × (1 ≤ rank) × (rank ≤ 10) ⌝ }
+    ensures { λ r. ⌜ r ≡ rowOfBook side rank (blockOf k (now (table .entry))) ⌝ }
+{
+    let a = 64 * k;
+    let b = a + 64;
+    row_of_book(&table[a..b], side, rank)
+}
+
+// A row by code, side and rank: 15, 4, 18, 4 or 0, in that order. It writes nothing.
+pub fn read_row(table: &[u64], code: u64, side: u64, rank: u64) -> RowRead
+    ensures { λ r. ⌜ r ≡ readRow code side rank (now (table .entry)) ⌝ }
+{
+    if is_asked(code, side, rank) {
+        let slot = slots::find(table, 64, code);
+        let Slot::Held(k) = slot else {
+            return no_row(4);
+        };
+        return row_in_slot(table, k, side, rank);
+    }
+    no_row(15)
 }

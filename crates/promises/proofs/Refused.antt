@@ -38,14 +38,14 @@ answer-listed s (Cut seq internal m time) =
     first-may (among (Cut seq internal m time)) (tests (s .feed) (s .tables) time (News.Message seq internal m)) (Take 0) tt tt
 
 -- which numbers stand beside which kind of answer
-proper : Answer → Bool
+unfoldable pub proper : Answer → Bool
 proper (Keep n) = oneOf n (10 ∷ 11 ∷ 20 ∷ 3 ∷ [])
 proper (Lose n) = oneOf n (12 ∷ 13 ∷ 14 ∷ [])
 proper (Spoil n) = oneOf n (15 ∷ 18 ∷ 17 ∷ 16 ∷ [])
 proper (Skip n) = oneOf n (1 ∷ [])
 proper (Take n) = oneOf n (2 ∷ 0 ∷ [])
 
-reply-proper : (s : State) (e : Event) → T (proper (reply s e))
+pub reply-proper : (s : State) (e : Event) → T (proper (reply s e))
 unfolding proper oneOf tests all
 reply-proper s e = first-may proper (tests (s .feed) (s .tables) (timeOf e) (news e)) (Take 0) tt tt
 

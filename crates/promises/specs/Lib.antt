@@ -10,3 +10,4 @@ pub mod Entries
 pub mod Tables
 pub mod Traps
 pub mod Refusals
+pub mod Runs

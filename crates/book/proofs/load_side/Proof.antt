@@ -1,0 +1,28 @@
+use Prim.Native.Nat.{_-_}
+use Rattle.book.proofs.Loads.{loads, Filling}
+use Rattle.book.proofs.load_side.Statement.{statement}
+use Rattle.book.proofs.load_side.Tie as tie
+
+abbrev Inv-loop : tie.InvT-loop
+Inv-loop block base n rows₀ i₀ rows i = Filling base block rows i
+
+abbrev μ-loop : tie.MeasureT-loop
+μ-loop block base n rows₀ i₀ rows i = 10 - i
+
+pub load-side-spec : {M : Type 1} → statement M
+load-side-spec =
+    tie.close
+    (tie.spec
+    Inv-loop
+    μ-loop
+    (λ c κs. search loads)
+    (λ c. search loads)
+    (λ c. search loads)
+    (λ c. search loads)
+    (λ c κs. search loads)
+    (λ c. search loads)
+    (λ c. search loads)
+    (λ c. search loads)
+    (λ c. search loads)
+    (λ c. search loads)
+    (λ c. search loads))

@@ -1,0 +1,16 @@
+use Rattle.book.proofs.Writes.{writes}
+use Rattle.book.proofs.write_book.Statement.{statement}
+use Rattle.book.proofs.write_book.Tie as tie
+
+pub write-book-spec : {M : Type 1} → statement M
+write-book-spec =
+    tie.close
+    (tie.spec
+    (λ c. search writes)
+    (λ c. search writes)
+    (λ c. search writes)
+    (λ c. search writes)
+    (λ c κs. search writes)
+    (λ c κs. search writes)
+    (λ c. search writes)
+    (λ c. search writes))

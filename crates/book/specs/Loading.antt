@@ -1,0 +1,35 @@
+-- A side read from a book's words by value, the test of one of its rows, and a sound book by value (document 01, "The book table"). Assumes nothing.
+use Prim.Native.Nat.{ℕ, _≤_}
+use mathlib.Core.Path.{_≡_}
+use mathlib.Core.Bool.{Bool, true, cond, _&&_, _||_}
+use mathlib.Core.List.{List}
+use lib.ListN.{length}
+use lib.Dec.{leb, eqb}
+use Rattle.wire.specs.Choice.{all}
+use Rattle.book.specs.Message.{depth}
+use Rattle.book.specs.Sides.{better}
+use Rattle.book.specs.Walk.{Book}
+use Rattle.book.specs.Words.{rowsFrom, bestFirst, bounded, zeroRow}
+use Rattle.book.specs.declared.Way.{Way}
+use Rattle.book.specs.declared.Way.the-variants.{Bid, Offer}
+use Rattle.book.specs.declared.Row.{Row}
+use Rattle.book.specs.declared.Side.{Side}
+
+-- the side of n rows whose ten rows stand from a word on
+abbrev pub sideFrom : ℕ → ℕ → List ℕ → Side
+sideFrom base n w = record { n = n; rows = rowsFrom base w }
+
+-- row i of ten rows of which n are used, below a row with the price `above`: zero where it is not used
+unfoldable pub soundRow : Way → ℕ → ℕ → ℕ → Row → Bool
+soundRow w n i above r = cond (leb n i) (zeroRow r) (bounded r && (eqb i 0 || better w above (r .price)))
+
+-- a side by value: at most ten rows, price and orders words below 4,294,967,296, each row better than the next
+pub record SoundRows (w : Way) (s : List Row) : Type 0 where
+  pub few : length s ≤ depth
+  pub words : all bounded s ≡ true
+  pub best : bestFirst w s ≡ true
+
+-- a book by value
+pub record SoundBook (b : Book) : Type 0 where
+  pub bids : SoundRows Bid (b .bids)
+  pub offers : SoundRows Offer (b .offers)

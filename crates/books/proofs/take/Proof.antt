@@ -1,0 +1,19 @@
+use Rattle.books.proofs.Turning.{turning}
+use Rattle.books.proofs.take.Statement.{statement}
+use Rattle.books.proofs.take.Tie as tie
+
+pub take-spec : {M : Type 1} → statement M
+take-spec =
+    tie.close
+    (tie.spec
+    (λ c κs. search turning)
+    (λ c κs. search turning)
+    (λ c κs. search turning)
+    (λ c κs. search turning)
+    (λ c κs. search turning)
+    (λ c. search turning)
+    (λ c κs. search turning)
+    (λ c. search turning)
+    (λ c. search turning)
+    (λ c. search turning)
+    (λ c. search turning))
