@@ -4,3 +4,6 @@ pub mod Refused
 pub mod Steps
 pub mod Badges
 pub mod Replays
+pub mod Soundness
+pub mod Demands
+pub mod Morning

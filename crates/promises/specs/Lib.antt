@@ -11,3 +11,4 @@ pub mod Tables
 pub mod Traps
 pub mod Refusals
 pub mod Runs
+pub mod Demands

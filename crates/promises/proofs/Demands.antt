@@ -1,0 +1,133 @@
+-- The customer's demands, proved: each is named as its statement in specs/Demands, with a small letter. Assumes nothing.
+use Prim.Native.Nat.{ℕ, zero}
+use mathlib.Core.Path.{_≡_, refl, sym, ap, _∙_, subst}
+use mathlib.Core.Bool.{Bool, true, false, true≢false}
+use mathlib.Core.List.{List, [], _∷_}
+use lib.Dec.{T, leb, eqb}
+use borrow.Author.Tests.{not-false, eqb-true, leb-true}
+use Rattle.wire.specs.Choice.{oneOf, first, all}
+use Rattle.wire.proofs.Bools.{both}
+use Rattle.wire.proofs.Choices.{first-at, first-none, first-skips}
+use Rattle.books.specs.Table.{unsound, noSlot, misfits, booksAfter}
+use Rattle.books.proofs.Frames.{books-own, books-slots, books-other, books-length, books-tail, book-sound-in}
+use Rattle.book.proofs.Orders.{price-once}
+use Rattle.book.specs.declared.Way.the-variants.{Bid, Offer}
+use Rattle.feed.specs.Messages.{kind, onMarket, book}
+use Rattle.feed.specs.Events.{State, Event, News, Message, timeOf, onMessage}
+use Rattle.feed.specs.Answers.{Answer, Keep, Lose, Spoil, Skip, Take, number, isNext, tests, answerTo, reply, ofBook}
+use Rattle.feed.specs.Steps.{tablesAfter, does, taken, act, accepted, handed, outcome}
+use Rattle.feed.specs.declared.Datum.the-variants as datum
+use Rattle.promises.specs.Runs.{start, after, run}
+use Rattle.promises.specs.Demands as D
+use Rattle.promises.proofs.Refused as F
+use Rattle.promises.proofs.Refused.{proper, reply-proper}
+use Rattle.promises.proofs.Steps.{Fine, fine}
+use Rattle.promises.proofs.Badges.{badge-green}
+use Rattle.promises.proofs.Replays.{table-replayed}
+use Rattle.promises.proofs.Soundness.{all-sound, book-replayed}
+
+-- DEMAND 1
+pub listed : D.Listed
+listed = F.answer-listed
+
+pub exactly : D.Exactly
+unfolding outcome handed
+exactly s e = (
+  λ before behind a q h. ap number (ap (λ (ts : List (Bool × Answer)). first ts (Take 0)) q ∙ first-at before behind a (Take 0) h),
+  λ h. ap number (first-none (D.rowsFor s e) (Take 0) h) ∙ zero-is,
+)
+  where
+    zero-is : number (Take 0) ≡ 0
+    zero-is = unfold number in refl
+
+pub refused : D.Refused
+refused = F.refused
+
+pub one : D.One
+one = F.one-outcome
+
+-- DEMAND 2
+isAccepted : Answer → Bool
+isAccepted a = accepted (number a)
+
+is-yes : (b : Bool) → b ≡ true → T b
+is-yes true e = tt
+is-yes false e = absurd (true≢false (sym e))
+
+next-is : (s : State) (time seq internal : ℕ) (m : List ℕ) → accepted (number (answerTo (s .feed) (s .tables) time (Message seq internal m))) ≡ true → isNext (s .feed) seq ≡ true
+unfolding isAccepted tests all onMessage number
+next-is s time seq internal m h =
+    not-false (isNext (s .feed) seq) (first-skips isAccepted (tests (s .feed) (s .tables) time (Message seq internal m)) (Take 0) (is-yes _ h) 5 tt)
+
+pub next : D.Next
+unfolding outcome handed isNext
+next s e seq internal m b h =
+    let q = both (eqb seq (s .feed .next)) (leb seq 4294967295) (next-is s (timeOf e) seq internal m (rw b at h)) in
+    (eqb-true seq (s .feed .next) (q .0), leb-true seq 4294967295 (q .1))
+
+-- an answer of 0 is Taken
+zero-take : (a : Answer) → T (proper a) → number a ≡ 0 → a ≡ Take 0
+unfolding proper number oneOf
+zero-take (Keep n) p e = absurd (subst (λ (k : ℕ). T (oneOf k (10 ∷ 11 ∷ 20 ∷ 3 ∷ []))) e p)
+zero-take (Lose n) p e = absurd (subst (λ (k : ℕ). T (oneOf k (12 ∷ 13 ∷ 14 ∷ []))) e p)
+zero-take (Spoil n) p e = absurd (subst (λ (k : ℕ). T (oneOf k (15 ∷ 18 ∷ 17 ∷ 16 ∷ []))) e p)
+zero-take (Skip n) p e = absurd (subst (λ (k : ℕ). T (oneOf k (1 ∷ []))) e p)
+zero-take (Take n) p e = ap Take e
+
+module _ (s : State) (e : Event) (m : List ℕ) (t : D.Taken s e m) where
+  reply-zero : reply s e ≡ Take 0
+  unfolding outcome handed
+  reply-zero = zero-take (reply s e) (reply-proper s e) (t .zero)
+
+  known : Fine s (timeOf e) (t .seq) (t .internal) m
+  known = fine s (timeOf e) (t .seq) (t .internal) m 0 (subst (λ (n : News). answerTo (s .feed) (s .tables) (timeOf e) n ≡ Take 0) (t .brings) reply-zero)
+
+  table-after : after s e .tables .books ≡ booksAfter (timeOf e) m (s .tables .books)
+  unfolding after outcome handed act taken does tablesAfter
+  table-after = rw (reply-zero, t .brings, t .book)
+
+  of-book : (b : Bool) → ofBook (kind m) b ≡ false → b ≡ false
+  unfolding ofBook onMarket book
+  of-book b h = rw (t .book) at h
+
+  sound-known : unsound m (s .tables .books) ≡ false
+  sound-known = of-book (unsound m (s .tables .books)) (known .sound)
+
+  room-known : noSlot m (s .tables .books) ≡ false
+  room-known = of-book (noSlot m (s .tables .books)) (known .room)
+
+  fit-known : misfits (timeOf e) m (s .tables .books) ≡ false
+  fit-known = of-book (misfits (timeOf e) m (s .tables .books)) (known .fit)
+
+pub whole : D.Whole
+whole s e m t = rw (table-after s e m t) (books-own (timeOf e) m (s .tables .books) (sound-known s e m t) (room-known s e m t) (fit-known s e m t))
+
+pub others : D.Others
+others s e m t = (
+  λ j h f. rw (table-after s e m t) (books-slots (timeOf e) m (s .tables .books) j h f),
+  λ c n z. rw (table-after s e m t) (books-other (timeOf e) m (s .tables .books) c n z),
+  rw (table-after s e m t) (books-length (timeOf e) m (s .tables .books)),
+  rw (table-after s e m t) (books-tail (timeOf e) m (s .tables .books)),
+)
+
+-- DEMAND 3
+pub replayed : D.Replayed
+replayed = table-replayed
+
+pub bookByBook : D.BookByBook
+bookByBook = book-replayed
+
+pub sound : D.Sound
+sound limit n es h =
+    let a = all-sound limit n es h in
+    (a, λ c. book-sound-in c (run (start limit n) es .tables .books) a)
+
+pub once : D.Once
+once limit n es h c i j ne =
+    let b = sound limit n es h .1 c in (
+      λ x y. price-once Bid (D.bookIn c (run (start limit n) es .tables .books) .bids) i j (b .bids .best) x y ne,
+      λ x y. price-once Offer (D.bookIn c (run (start limit n) es .tables .books) .offers) i j (b .offers .best) x y ne,
+    )
+
+pub green : D.Green
+green = badge-green

@@ -1,0 +1,172 @@
+-- The customer's three demands as statements. Each is proved in proofs/Demands, under its name with a small letter. Assumes nothing.
+use Prim.Native.Nat.{ℕ, _+_, _*_, _≤_, _<_}
+use mathlib.Core.Path.{_≡_}
+use mathlib.Core.Bool.{Bool, true, false, not}
+use mathlib.Core.List.{List, [], _∷_, _++_}
+use mathlib.Core.Option.{some}
+use lib.ListN.{length, drop, getD}
+use lib.Dec.{T, eqb}
+use Rattle.wire.specs.Choice.{oneOf, all}
+use Rattle.wire.specs.Number.{bytesOnly}
+use Rattle.slots.specs.Slots.{slotCount, slotsOf}
+use Rattle.slots.specs.declared.Slot.the-variants.{Held, Free}
+use Rattle.book.specs.Message.{securityCode}
+use Rattle.book.specs.Sides.{noRow}
+use Rattle.book.specs.Walk.{Book, emptyBook, bookAfter}
+use Rattle.book.specs.Words.{bookWidth, sound}
+use Rattle.book.specs.Loading.{SoundBook}
+use Rattle.books.specs.Table.{placeIn, block, bookAt}
+use Rattle.feed.specs.Messages.{kind}
+use Rattle.feed.specs.Feeds.{badgeNo, badgeOf}
+use Rattle.feed.specs.Events.{State, Event, Connect, Arrive, Cut, Message, news, timeOf, onMessage}
+use Rattle.feed.specs.Answers.{Answer, number, tests}
+use Rattle.feed.specs.Steps.{accepted, Outcome, outcome}
+use Rattle.feed.specs.declared.Kind.{Kind}
+use Rattle.feed.specs.declared.Kind.the-variants.{Session, Market}
+use Rattle.feed.specs.declared.Session.the-variants.{SendKey, Logon, Logout, Refresh, Complete, Request}
+use Rattle.feed.specs.declared.Datum.the-variants as datum
+use Rattle.promises.specs.Refusals.{answersTo, refusal}
+use Rattle.promises.specs.Runs.{zeroed, start, after, run, history, green, replay, replayOn}
+
+-- the rows of document 01's table of answers for a call
+abbrev pub rowsFor : State → Event → List (Bool × Answer)
+rowsFor s e = tests (s .feed) (s .tables) (timeOf e) (news e)
+
+-- DEMAND 1. Any bytes, any table, any clock reading gets one of the numbered answers ..
+abbrev pub Listed : Type 0
+Listed = (s : State) (e : Event) → T (oneOf (outcome s e .given .answer) (answersTo e))
+
+-- .. under exactly its stated condition: that of the first row whose test passes, and 0 where none does
+abbrev pub Exactly : Type 0
+Exactly =
+    (s : State) (e : Event)
+    → ((before behind : List (Bool × Answer)) (a : Answer)
+    → rowsFor s e ≡ before ++ ((true, a) ∷ behind) → T (all (λ t. not (t .0)) before) → outcome s e .given .answer ≡ number a)
+    × (T (all (λ t. not (t .0)) (rowsFor s e)) → outcome s e .given .answer ≡ 0)
+
+-- "A refused arrival writes nothing to the book table, and document 01 says what becomes of the feed"
+abbrev pub Refused : Type 0
+Refused = (s : State) (e : Event) → accepted (outcome s e .given .answer) ≡ false → outcome s e ≡ refusal (outcome s e .given .answer) s
+
+-- any two outcomes of a call are the same
+abbrev pub One : Type 0
+One = (s : State) (e : Event) (a b : Outcome) → a ≡ outcome s e → b ≡ outcome s e → a ≡ b
+
+-- DEMAND 2. "A counted message is acted on only when its number is the next"
+abbrev pub Next : Type 0
+Next =
+    (s : State) (e : Event) (seq internal : ℕ) (m : List ℕ) → news e ≡ Message seq internal m → accepted (outcome s e .given .answer) ≡ true
+    → (seq ≡ s .feed .next) × (seq ≤ 4294967295)
+
+-- the book of a code in a table
+abbrev pub bookIn : ℕ → List ℕ → Book
+bookIn c t = bookAt (placeIn c t) t
+
+-- a book message that is taken: a message of type 53, answered 0
+pub record Taken (s : State) (e : Event) (m : List ℕ) : Type 0 where
+  pub seq : ℕ
+  pub internal : ℕ
+  pub brings : news e ≡ Message seq internal m
+  pub book : kind m ≡ Market datum.Book
+  pub zero : outcome s e .given .answer ≡ 0
+
+-- "A book message is applied entry by entry in order, whole": the code's book is then what all its entries make of it ..
+abbrev pub Whole : Type 0
+Whole =
+    (s : State) (e : Event) (m : List ℕ) → Taken s e m
+    → bookAfter (timeOf e) m (bookIn (securityCode m) (s .tables .books)) ≡ some (bookIn (securityCode m) (after s e .tables .books))
+
+-- .. "and touches no other book": every slot but the one that the code has or takes, and every word behind the slots, is as it was
+abbrev pub Others : Type 0
+Others =
+    (s : State) (e : Event) (m : List ℕ) → Taken s e m
+    → ((j : ℕ) → (placeIn (securityCode m) (s .tables .books) ≡ Held j → ⊥) → (placeIn (securityCode m) (s .tables .books) ≡ Free j → ⊥)
+    → block j (after s e .tables .books) ≡ block j (s .tables .books))
+    × ((c : ℕ) → (securityCode m ≡ c → ⊥) → (c ≡ 0 → ⊥) → bookIn c (after s e .tables .books) ≡ bookIn c (s .tables .books))
+    × (length (after s e .tables .books) ≡ length (s .tables .books))
+    × (drop (bookWidth * slotCount bookWidth (length (s .tables .books))) (after s e .tables .books)
+    ≡ drop (bookWidth * slotCount bookWidth (length (s .tables .books))) (s .tables .books))
+
+-- DEMAND 3, of every run from a new feed of any limit and n zero words.
+-- "the table is what replaying from empty, in order, the book messages taken since the last clearing gives"
+abbrev pub Replayed : Type 0
+Replayed = (limit n : ℕ) (es : List Event) → run (start limit n) es .tables ≡ replay (history (start limit n) es .deeds) (zeroed n)
+
+-- what is handed in are bytes (the one thing assumed; of a slice of bytes it is a fact)
+unfoldable pub handsBytes : Event → Bool
+handsBytes (Connect link time) = true
+handsBytes (Arrive bytes time) = bytesOnly bytes
+handsBytes (Cut seq internal m time) = bytesOnly m
+
+abbrev pub Bytes : List Event → Type 0
+Bytes es = T (all handsBytes es)
+
+-- the same read book by book, by the messages for that code alone and with no table in it
+abbrev pub BookByBook : Type 0
+BookByBook =
+    (limit n : ℕ) (es : List Event) → Bytes es → (c : ℕ) → (c ≡ 0 → ⊥)
+    → bookIn c (run (start limit n) es .tables .books) ≡ replayOn c (history (start limit n) es .deeds) emptyBook
+
+-- "Each side has at most ten rows, best first, no price twice": every slot is sound, and so is every code's book
+abbrev pub Sound : Type 0
+Sound =
+    (limit n : ℕ) (es : List Event) → Bytes es
+    → (all sound (slotsOf bookWidth (run (start limit n) es .tables .books)) ≡ true)
+    × ((c : ℕ) → SoundBook (bookIn c (run (start limit n) es .tables .books)))
+
+-- no price twice on a side, for any two ranks
+abbrev pub Once : Type 0
+Once =
+    (limit n : ℕ) (es : List Event) → Bytes es → (c i j : ℕ) → (i ≡ j → ⊥)
+    → (i < length (bookIn c (run (start limit n) es .tables .books) .bids) → j < length (bookIn c (run (start limit n) es .tables .books) .bids)
+    → getD (bookIn c (run (start limit n) es .tables .books) .bids) i noRow .price ≡ getD (bookIn c (run (start limit n) es .tables .books) .bids) j noRow .price → ⊥)
+    × (i < length (bookIn c (run (start limit n) es .tables .books) .offers) → j < length (bookIn c (run (start limit n) es .tables .books) .offers)
+    → getD (bookIn c (run (start limit n) es .tables .books) .offers) i noRow .price ≡ getD (bookIn c (run (start limit n) es .tables .books) .offers) j noRow .price → ⊥)
+
+-- so 18 never comes in such a run
+abbrev pub Never18 : Type 0
+Never18 = (limit n : ℕ) (es : List Event) (e : Event) → Bytes es → outcome (run (start limit n) es) e .given .answer ≡ 18 → ⊥
+
+-- "The badge is green exactly when" the history says so
+abbrev pub Green : Type 0
+Green =
+    (limit n : ℕ) (es : List Event) (time : ℕ)
+    → eqb (badgeNo (badgeOf (run (start limit n) es .feed) time)) 1 ≡ green (history (start limit n) es) (start limit n .feed .limit) time
+
+-- THE MORNING OF THE INCIDENT. After a lost message (or any arrival answered 12 to 18) the badge is not green at any time,
+-- whatever comes, as long as no connect is accepted
+abbrev pub notConnect : Event → Bool
+notConnect (Connect link time) = false
+notConnect (Arrive bytes time) = true
+notConnect (Cut seq internal m time) = true
+
+abbrev pub LostStaysDark : Type 0
+LostStaysDark =
+    (limit n : ℕ) (es : List Event) (e : Event) (fs : List Event) (time : ℕ)
+    → T (oneOf (outcome (run (start limit n) es) e .given .answer) (12 ∷ 13 ∷ 14 ∷ 15 ∷ 16 ∷ 17 ∷ 18 ∷ [])) → T (all notConnect fs)
+    → eqb (badgeNo (badgeOf (run (start limit n) (es ++ (e ∷ fs)) .feed) time)) 1 ≡ false
+
+-- and it is not green either, connects or not, before a logon response has come
+unfoldable pub isLogon : Kind → Bool
+isLogon (Session SendKey) = false
+isLogon (Session Logon) = true
+isLogon (Session Logout) = false
+isLogon (Session Refresh) = false
+isLogon (Session Complete) = false
+isLogon (Session Request) = false
+isLogon (Market d) = false
+
+abbrev pub notLogon : Event → Bool
+notLogon e = not (onMessage (λ seq internal m. isLogon (kind m)) (news e))
+
+abbrev pub DarkBeforeLogon : Type 0
+DarkBeforeLogon =
+    (limit n : ℕ) (es : List Event) (e : Event) (fs : List Event) (time : ℕ)
+    → T (oneOf (outcome (run (start limit n) es) e .given .answer) (12 ∷ 13 ∷ 14 ∷ 15 ∷ 16 ∷ 17 ∷ 18 ∷ [])) → T (all notLogon fs)
+    → eqb (badgeNo (badgeOf (run (start limit n) (es ++ (e ∷ fs)) .feed) time)) 1 ≡ false
+
+-- when the line goes quiet, the badge is not green at any time more than the limit after the last connect or arrival that was accepted, nor before it
+abbrev pub Quiet : Type 0
+Quiet =
+    (limit n : ℕ) (es : List Event) (time : ℕ) → eqb (badgeNo (badgeOf (run (start limit n) es .feed) time)) 1 ≡ true
+    → (history (start limit n) es .heard ≤ time) × (time ≤ history (start limit n) es .heard + start limit n .feed .limit)
