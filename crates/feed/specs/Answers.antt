@@ -1,6 +1,6 @@
 -- The answers, in the order they are tried (document 01, "Answer numbers, in the order they are tried"). Assumes nothing.
 use Prim.Native.Nat.{ℕ}
-use mathlib.Core.Bool.{Bool, true, false, not, _&&_, _||_}
+use mathlib.Core.Bool.{Bool, true, false, cond, not, _&&_, _||_}
 use mathlib.Core.List.{List, [], _∷_}
 use lib.Dec.{ltb, leb, eqb}
 use Rattle.wire.specs.Choice.{first}
@@ -102,3 +102,7 @@ answerTo f x time n = first (tests f x time n) (Take 0)
 
 abbrev pub reply : State → Event → Answer
 reply s e = answerTo (s .feed) (s .tables) (timeOf e) (news e)
+
+-- what the first two rows make of an arrival: 10, 11, and 0 where neither passes
+abbrev pub refusal : Feed → ℕ → ℕ
+refusal f time = cond (ltb time (f .heard)) 10 (cond (deaf (f .phase)) 11 0)

@@ -107,6 +107,22 @@ pub record Outcome : Type 0 where
   pub given : Given
   pub tables : Tables
 
+-- a feed with the table of books that is lent
+abbrev pub stateOf : Feed → List ℕ → State
+stateOf f t = record { feed = f; tables = record { books = t } }
+
+-- what a call hands back, with that table after it
+abbrev pub outOf : Given → List ℕ → Outcome
+outOf g t = record { given = g; tables = record { books = t } }
+
+-- an answer with no bytes used, and the feed after it
+abbrev pub answered : ℕ → Feed → Given
+answered n f = record { answer = n; used = 0; feed = f }
+
+-- the same answer and feed, with other bytes used
+abbrev pub usedIs : ℕ → Given → Given
+usedIs n g = record { answer = g .answer; used = n; feed = g .feed }
+
 -- what an answer to a call comes to
 unfoldable pub handed : Answer → State → Event → Outcome
 handed a s e = record {

@@ -1,0 +1,426 @@
+-- What the small functions ask: phases, the badge, what a message is, its size and status, and the feed with one thing changed. Assumes nothing.
+use Prim.Native.Nat.{ℕ, _+_, _-_, _*_, _≤_, _<_}
+use mathlib.Core.Path.{_≡_, refl, ap, sym, _∙_}
+use mathlib.Core.Bool.{Bool, true, false, cond, not, _&&_, or-false}
+use mathlib.Core.List.{List, [], _∷_}
+use native.Mathlib.Decide.{decLe}
+use native.Mathlib.Omega.{arith}
+use lib.Dec.{leb, ltb, eqb}
+use lib.ListN.{length, getD}
+use borrow.Author.Needs.{needs}
+use borrow.Author.Tests.{lt-ltb, le-ltb, le-leb, lt-leb, eq-eqb, ne-eqb}
+use Rattle.wire.specs.Choice.{oneOf, pick, first}
+use Rattle.wire.specs.Number.{field}
+use Rattle.slots.specs.Slots as slots
+use Rattle.book.specs.Message.{bookSized}
+use Rattle.feed.specs.Messages.{datumOf, kindOf, market, onMarket, sized, wrongSize, statusOf, listedStatus, listed}
+use Rattle.feed.specs.Feeds.{phaseNo, is, deaf, inPhase, internalIs, wholeIs, listedLimit, newFeed, newGiven, colour, badgeNo, badge, phaseOf, plainBadge}
+use Rattle.feed.specs.Events.{Linked}
+use Rattle.feed.specs.Answers.{lacksNeed, allowed, seen, refusal}
+use Rattle.feed.specs.Steps.{cleared, enterLive, loggedOn, onFeed, advanced, counted, accepted, stateOf, answered, usedIs}
+use Rattle.feed.specs.declared.Phase.{Phase}
+use Rattle.feed.specs.declared.Phase.the-variants.{Idle, Refreshing, Live, Lost, Closed}
+use Rattle.feed.specs.declared.Kind.{Kind}
+use Rattle.feed.specs.declared.Kind.the-variants.{Session, Market}
+use Rattle.feed.specs.declared.Session as session
+use Rattle.feed.specs.declared.Session.the-variants.{SendKey, Logon, Logout, Refresh, Complete, Request}
+use Rattle.feed.specs.declared.Datum.{Datum}
+use Rattle.feed.specs.declared.Datum.the-variants.{Book, Other}
+use Rattle.feed.specs.declared.Status.{Status}
+use Rattle.feed.specs.declared.Status.the-variants.{Opens, Refills, Stays, Closes, Unlisted}
+use Rattle.feed.specs.declared.Badge.{Badge}
+use Rattle.feed.specs.declared.Badge.the-variants.{Stale}
+use Rattle.feed.specs.declared.Link.{Link}
+use Rattle.feed.specs.declared.Link.the-variants.{Fresh, Resuming}
+use Rattle.feed.specs.declared.Feed.{Feed}
+use Rattle.feed.specs.declared.Given.{Given}
+
+-- phases
+pub same-phase : (p q : Phase) (a b : ℕ) → a ≡ phaseNo p → b ≡ phaseNo q → eqb a b ≡ is p q
+unfolding is
+same-phase p q a b e f = rw (e, f)
+
+module _ (p : Phase) (a : Bool) (e : a ≡ is p Idle) where
+  pub deaf-idle : a ≡ true → true ≡ deaf p
+  unfolding deaf
+  deaf-idle f = rw (← e, f)
+
+  pub deaf-lost : (b : Bool) → a ≡ false → b ≡ is p Lost → b ≡ true → true ≡ deaf p
+  unfolding deaf
+  deaf-lost b f g h = rw (← e, f, ← g, h)
+
+  pub deaf-closed : (b c : Bool) → a ≡ false → b ≡ is p Lost → b ≡ false → c ≡ is p Closed → c ≡ deaf p
+  unfolding deaf
+  deaf-closed b c f g h k = rw (← e, f, ← g, h) k
+
+pub no-phase : (n : ℕ) → (n ≡ 0 → ⊥) → (n ≡ 1 → ⊥) → (n ≡ 2 → ⊥) → (n ≡ 3 → ⊥) → (n ≡ 4 → ⊥) → (n ≡ 5 → ⊥) → (n ≡ 6 → ⊥) → Lost ≡ phaseOf n
+unfolding phaseOf pick
+no-phase n a b c d e f g = rw (ne-eqb n 0 a, ne-eqb n 1 b, ne-eqb n 2 c, ne-eqb n 3 d, ne-eqb n 4 e, ne-eqb n 5 f, ne-eqb n 6 g)
+
+-- the badge
+pub limit-low : (l : ℕ) → l < 1 → false ≡ listedLimit l
+unfolding listedLimit
+limit-low l h = rw (lt-leb 1 l h)
+
+pub limit-high : (l : ℕ) → 1 ≤ l → leb l 600000 ≡ listedLimit l
+unfolding listedLimit
+limit-high l h = rw (le-leb 1 l h)
+
+-- at most the limit after the last heard time, by a difference
+after : (h l t : ℕ) → h ≤ t → leb (t - h) l ≡ leb t (h + l)
+after h l t a = go (decLe (t - h) l)
+  where
+    go : Dec (t - h ≤ l) → leb (t - h) l ≡ leb t (h + l)
+    go (yes b) = rw (le-leb (t - h) l b, le-leb t (h + l) (omega arith))
+    go (no b) = rw (lt-leb (t - h) l (omega arith), lt-leb t (h + l) (omega arith))
+
+module _ (h l t : ℕ) (b : Bool) (e : b ≡ listedLimit l) where
+  pub no-limit : b ≡ false → false ≡ (listedLimit l && leb h t && leb t (h + l))
+  no-limit f = rw (← e, f)
+
+  pub before-heard : b ≡ true → t < h → false ≡ (listedLimit l && leb h t && leb t (h + l))
+  before-heard f a = rw (← e, f, lt-leb h t a)
+
+  pub after-heard : b ≡ true → h ≤ t → leb (t - h) l ≡ (listedLimit l && leb h t && leb t (h + l))
+  after-heard f a = rw (← e, f, le-leb h t a) (after h l t a)
+
+module _ (p : Phase) (h l t : ℕ) (b : Bool) (e : b ≡ (listedLimit l && leb h t && leb t (h + l))) where
+  pub badge-on : (x : Badge) → b ≡ true → x ≡ colour p → x ≡ badge p h l t
+  unfolding badge
+  badge-on x f g = rw (← e, f) g
+
+  pub badge-off : b ≡ false → Stale ≡ badge p h l t
+  unfolding badge
+  badge-off f = rw (← e, f)
+
+pub badge-plain : (n h l t : ℕ) (p : Phase) (b : Badge) (r : ℕ) → p ≡ phaseOf n → b ≡ badge p h l t → r ≡ badgeNo b → r ≡ plainBadge n h l t
+badge-plain n h l t p b r e f g = rw (← e, ← f) g
+
+-- what a message is
+pub byte-is : (m : List ℕ) (k r : ℕ) → r ≡ getD m k 0 → r ≡ field k 1 m
+unfolding field
+byte-is m k r e = omega arith
+
+pub is-book : (t : ℕ) → t ≡ 53 → Book ≡ datumOf t
+unfolding datumOf pick
+is-book t e = rw e
+
+pub is-other : (t : ℕ) → (t ≡ 53 → ⊥) → Other ≡ datumOf t
+unfolding datumOf pick
+is-other t e = rw (ne-eqb t 53 e)
+
+pub is-market : (t : ℕ) (d : Datum) → (t ≡ 203 → ⊥) → (t ≡ 1101 → ⊥) → (t ≡ 1102 → ⊥) → (t ≡ 1103 → ⊥) → (t ≡ 1105 → ⊥) → (t ≡ 1201 → ⊥) → (t ≡ 1202 → ⊥) → d ≡ datumOf t → Market d ≡ kindOf t
+unfolding kindOf pick
+is-market t d a b c e f g h k =
+    rw (ne-eqb t 203 a, ne-eqb t 1101 b, ne-eqb t 1102 c, ne-eqb t 1103 e, ne-eqb t 1105 f, ne-eqb t 1201 g, ne-eqb t 1202 h, k)
+
+pub kind-read : (m : List ℕ) (t : ℕ) (k : Kind) → t ≡ field 2 2 m → k ≡ kindOf t → k ≡ kindOf (field 2 2 m)
+kind-read m t k e f = rw e at f
+
+-- the kind that an arm knows
+module _ (m : List ℕ) where
+  pub kind-by : (k j : Kind) → k ≡ kindOf (field 2 2 m) → k ≡ j → j ≡ kindOf (field 2 2 m)
+  kind-by k j a e = sym e ∙ a
+
+  pub datum-by : (d e : Datum) → Market d ≡ kindOf (field 2 2 m) → d ≡ e → Market e ≡ kindOf (field 2 2 m)
+  datum-by d e a f = rw f at a
+
+-- sizes
+pub book-short : (m : List ℕ) → length m < 12 → false ≡ bookSized m
+unfolding bookSized
+book-short m a = rw (lt-leb 12 (length m) a)
+
+pub book-long : (m : List ℕ) (n : ℕ) → 12 ≤ length m → n ≡ field 11 1 m → eqb (length m) (12 + 24 * n) ≡ bookSized m
+unfolding bookSized
+book-long m n a e = rw (le-leb 12 (length m) a, e)
+
+pub sized-by : (k j : Kind) (m : List ℕ) (b : Bool) → k ≡ j → b ≡ sized j m → b ≡ sized k m
+sized-by k j m b e f = rw e f
+
+pub wrong-short : (m : List ℕ) → length m < 4 → true ≡ wrongSize m
+unfolding wrongSize
+wrong-short m a = rw (lt-ltb (length m) 4 a)
+
+module _ (m : List ℕ) (n : ℕ) (a : 4 ≤ length m) (e : n ≡ field 0 2 m) where
+  pub wrong-length : (n ≡ length m → ⊥) → true ≡ wrongSize m
+  unfolding wrongSize
+  wrong-length f = rw (le-ltb (length m) 4 a, ← e, ne-eqb n (length m) f)
+
+  pub wrong-sized : (k : Kind) (b : Bool) → n ≡ length m → k ≡ kindOf (field 2 2 m) → b ≡ sized k m → not b ≡ wrongSize m
+  unfolding wrongSize
+  wrong-sized k b f g h = rw (le-ltb (length m) 4 a, ← e, eq-eqb n (length m) f, ← g, h)
+
+-- what is allowed and seen
+pub in-refreshing : (p : Phase) (i : ℕ) → p ≡ Refreshing → eqb i 0 ≡ allowed (Market Other) p i
+unfolding allowed is
+in-refreshing p i e = rw e (sym (or-false (eqb i 0)))
+
+-- a session's message has no internal number that counts
+pub any-internal : (s : session.Session) (p : Phase) (i j : ℕ) → allowed (Session s) p i ≡ allowed (Session s) p j
+unfolding allowed
+any-internal SendKey p i j = refl
+any-internal Logon p i j = refl
+any-internal Logout p i j = refl
+any-internal Refresh p i j = refl
+any-internal Complete p i j = refl
+any-internal Request p i j = refl
+
+module _ (k : Kind) (p : Phase) (i : ℕ) (b : Bool) where
+  pub session-allowed : (s : session.Session) → k ≡ Session s → b ≡ allowed (Session s) p 0 → b ≡ allowed k p i
+  session-allowed s e f = rw e (f ∙ any-internal s p 0 i)
+
+  pub market-allowed : (d : Datum) → k ≡ Market d → b ≡ allowed (Market Other) p i → b ≡ allowed k p i
+  unfolding allowed
+  market-allowed d e f = rw e f
+
+module _ (f : Feed) (k : Kind) (i : ℕ) (b : Bool) (e : b ≡ is (f .phase) Live) where
+  pub not-live : b ≡ false → false ≡ seen f k i
+  unfolding seen
+  not-live g = rw (← e, g)
+
+  pub seen-session : (s : session.Session) → b ≡ true → k ≡ Session s → false ≡ seen f k i
+  unfolding seen market onMarket
+  seen-session s g h = rw (← e, g, h)
+
+  pub seen-market : (d : Datum) → b ≡ true → k ≡ Market d → leb i (f .internal) ≡ seen f k i
+  unfolding seen market onMarket
+  seen-market d g h = rw (← e, g, h)
+
+-- by the variant that an arm knows
+module _ (s j : session.Session) (b : Bool) (e : s ≡ j) where
+  pub session-sized-by : (m : List ℕ) → b ≡ sized (Session j) m → b ≡ sized (Session s) m
+  session-sized-by m f = rw e f
+
+  pub session-allowed-by : (p : Phase) → b ≡ allowed (Session j) p 0 → b ≡ allowed (Session s) p 0
+  session-allowed-by p f = rw e f
+
+  pub session-listed-by : (m : List ℕ) → b ≡ listed (Session j) m → b ≡ listed (Session s) m
+  session-listed-by m f = rw e f
+
+pub logout-allowed : (s : session.Session) (p : Phase) (b : Bool) → s ≡ Logout → b ≡ deaf p → not b ≡ allowed (Session s) p 0
+unfolding allowed
+logout-allowed s p b e f = rw (e, f)
+
+module _ (s : session.Session) (m : List ℕ) (n : ℕ) where
+  pub logon-listed : (r : Status) (b : Bool) → s ≡ Logon → n ≡ field 6 1 m → r ≡ statusOf n → b ≡ listedStatus r → b ≡ listed (Session s) m
+  unfolding listed
+  logon-listed r b e f g h = rw (e, ← f, ← g) h
+
+  pub logout-listed : (b : Bool) → s ≡ Logout → n ≡ field 4 1 m → b ≡ oneOf n (6 ∷ 102 ∷ 103 ∷ []) → b ≡ listed (Session s) m
+  unfolding listed
+  logout-listed b e f h = rw (e, ← f) h
+
+  pub refresh-listed : s ≡ Refresh → n ≡ field 4 1 m → eqb n 0 ≡ listed (Session s) m
+  unfolding listed
+  refresh-listed e f = rw (e, f)
+
+pub market-sized-by : (d e : Datum) (b : Bool) (m : List ℕ) → d ≡ e → b ≡ sized (Market e) m → b ≡ sized (Market d) m
+market-sized-by d e b m g f = rw g f
+
+pub market-allowed-by : (p q : Phase) (b : Bool) (i : ℕ) → p ≡ q → b ≡ allowed (Market Other) q i → b ≡ allowed (Market Other) p i
+market-allowed-by p q b i e f = rw e f
+
+-- statuses
+pub no-status : (n : ℕ) → (n ≡ 0 → ⊥) → (n ≡ 2 → ⊥) → (n ≡ 101 → ⊥) → (n ≡ 1 → ⊥) → (n ≡ 3 → ⊥) → (n ≡ 8 → ⊥) → (n ≡ 5 → ⊥) → (n ≡ 6 → ⊥)
+    → (n ≡ 100 → ⊥) → (n ≡ 104 → ⊥) → (n ≡ 105 → ⊥) → Unlisted ≡ statusOf n
+unfolding statusOf pick
+no-status n a b c d e f g h i j k =
+    rw (ne-eqb n 0 a, ne-eqb n 2 b, ne-eqb n 101 c, ne-eqb n 1 d, ne-eqb n 3 e, ne-eqb n 8 f, ne-eqb n 5 g, ne-eqb n 6 h, ne-eqb n 100 i, ne-eqb n 104 j, ne-eqb n 105 k)
+
+pub bye-6 : (n : ℕ) → n ≡ 6 → true ≡ oneOf n (6 ∷ 102 ∷ 103 ∷ [])
+unfolding oneOf
+bye-6 n e = rw e
+
+pub bye-102 : (n : ℕ) → n ≡ 102 → true ≡ oneOf n (6 ∷ 102 ∷ 103 ∷ [])
+unfolding oneOf
+bye-102 n e = rw e
+
+pub bye-103 : (n : ℕ) → (n ≡ 6 → ⊥) → (n ≡ 102 → ⊥) → eqb n 103 ≡ oneOf n (6 ∷ 102 ∷ 103 ∷ [])
+unfolding oneOf
+bye-103 n a b = rw (ne-eqb n 6 a, ne-eqb n 102 b) (sym (or-false (eqb n 103)))
+
+-- the bytes used
+pub counted-all : (g : Given) (n : ℕ) → g .answer ≤ 2 → usedIs n g ≡ usedIs (cond (accepted (g .answer)) n 0) g
+counted-all g n h = rw (le-leb (g .answer) 2 h)
+
+pub counted-none : (g : Given) (n : ℕ) → 2 < g .answer → usedIs 0 g ≡ usedIs (cond (accepted (g .answer)) n 0) g
+counted-none g n h = rw (lt-leb (g .answer) 2 h)
+
+-- 10 and 11
+module _ (f : Feed) (n : ℕ) where
+  pub refuse-early : n < f .heard → 10 ≡ refusal f n
+  refuse-early a = rw (lt-ltb n (f .heard) a)
+
+  module _ (b : Bool) (a : f .heard ≤ n) (e : b ≡ deaf (f .phase)) where
+    pub refuse-deaf : b ≡ true → 11 ≡ refusal f n
+    refuse-deaf h = rw (le-ltb n (f .heard) a, ← e, h)
+
+    pub refuse-none : b ≡ false → 0 ≡ refusal f n
+    refuse-none h = rw (le-ltb n (f .heard) a, ← e, h)
+
+-- a feed with one thing changed, and with an answer
+pub answered-by : (n : ℕ) (x y : Feed) (g : Given) → x ≡ y → g ≡ answered n x → g ≡ answered n y
+answered-by n x y g e f = rw e at f
+
+pub spoilt-is : (n : ℕ) (f x : Feed) (g : Given) → x ≡ inPhase Lost f → g ≡ answered n (wholeIs false x) → g ≡ answered n (inPhase Lost (wholeIs false f))
+spoilt-is n f x g e h = rw e at h
+
+pub live-is : (f x : Feed) → x ≡ inPhase Live f → wholeIs true x ≡ enterLive f
+live-is f x e = rw e
+
+pub completed-is : (f x : Feed) (i : ℕ) → x ≡ enterLive f → internalIs i x ≡ enterLive (internalIs i f)
+completed-is f x i e = rw e
+
+module _ (f x : Feed) (i n : ℕ) (b : Bool) (e : x ≡ advanced n f) (g : b ≡ is (f .phase) Live) where
+  pub numbered-live : b ≡ true → internalIs i x ≡ advanced n (counted (Market Other) i f)
+  unfolding counted market onMarket
+  numbered-live h = rw (← g, h, e)
+
+  pub numbered-not : b ≡ false → x ≡ advanced n (counted (Market Other) i f)
+  unfolding counted market onMarket
+  numbered-not h = rw (← g, h, e)
+
+pub cleared-is : (f : Feed) (t u : List ℕ) → u ≡ slots.cleared 64 t → stateOf (internalIs 0 (wholeIs false f)) u ≡ cleared (stateOf f t)
+cleared-is f t u e = rw e
+
+-- a new feed, and the need of resuming
+pub new-taken : (l : ℕ) (b : Bool) (x : Feed) (g : Given) → b ≡ listedLimit l → b ≡ true → x ≡ newFeed l → g ≡ answered 0 x → g ≡ newGiven l
+unfolding newGiven first
+new-taken l b x g e f h k = rw (← e, f, k, h)
+
+pub new-refused : (l : ℕ) (b : Bool) (x : Feed) (g : Given) → b ≡ listedLimit l → b ≡ false → x ≡ newFeed 1000 → g ≡ answered 19 x → g ≡ newGiven l
+unfolding newGiven first
+new-refused l b x g e f h k = rw (← e, f, k, h)
+
+below-one : (n : ℕ) → ltb n 1 ≡ not (leb 1 n)
+below-one n = go (decLe 1 n)
+  where
+    go : Dec (1 ≤ n) → ltb n 1 ≡ not (leb 1 n)
+    go (yes a) = rw (le-ltb n 1 a, le-leb 1 n a)
+    go (no a) = rw (lt-ltb n 1 (omega arith), lt-leb 1 n (omega arith))
+
+module _ (f : Feed) (l : Link) where
+  pub fresh-needs : l ≡ Fresh → false ≡ lacksNeed f (Linked l)
+  unfolding lacksNeed
+  fresh-needs e = rw e
+
+  pub whole-needs : l ≡ Resuming → f .whole ≡ true → ltb (f .internal) 1 ≡ lacksNeed f (Linked l)
+  unfolding lacksNeed
+  whole-needs e g = rw (e, g) (below-one (f .internal))
+
+  pub torn-needs : l ≡ Resuming → f .whole ≡ false → true ≡ lacksNeed f (Linked l)
+  unfolding lacksNeed
+  torn-needs e g = rw (e, g)
+
+-- logons
+module _ (f : Feed) (t : List ℕ) where
+  pub opened-fresh : (x y : Feed) (u : List ℕ) → f .fresh ≡ true → stateOf x u ≡ cleared (stateOf f t) → y ≡ enterLive x → stateOf y u ≡ loggedOn Opens (stateOf f t)
+  unfolding loggedOn
+  opened-fresh x y u a e g =
+      let q : onFeed enterLive (cleared (stateOf f t)) ≡ loggedOn Opens (stateOf f t) = rw a in
+      rw g (ap (onFeed enterLive) e ∙ q)
+
+  pub opened-resumed : (x : Feed) → f .fresh ≡ false → x ≡ enterLive f → stateOf x t ≡ loggedOn Opens (stateOf f t)
+  unfolding loggedOn
+  opened-resumed x a e = rw (e, a)
+
+  pub refilled-is : (x y : Feed) (u : List ℕ) → stateOf x u ≡ cleared (stateOf f t) → y ≡ inPhase Refreshing x → stateOf y u ≡ loggedOn Refills (stateOf f t)
+  unfolding loggedOn
+  refilled-is x y u e g = rw g (ap (onFeed (inPhase Refreshing)) e)
+
+  module _ (s : Status) where
+    pub logged-by : (x : Feed) (u : List ℕ) (r : Status) → s ≡ r → stateOf x u ≡ loggedOn r (stateOf f t) → stateOf x u ≡ loggedOn s (stateOf f t)
+    logged-by x u r e h = rw e h
+
+    pub logged-stays : s ≡ Stays → stateOf f t ≡ loggedOn s (stateOf f t)
+    unfolding loggedOn
+    logged-stays e = rw e
+
+    pub logged-closes : (x : Feed) → s ≡ Closes → x ≡ inPhase Closed f → stateOf x t ≡ loggedOn s (stateOf f t)
+    unfolding loggedOn
+    logged-closes x e g = rw (e, g)
+
+    pub logged-unlisted : s ≡ Unlisted → stateOf f t ≡ loggedOn s (stateOf f t)
+    unfolding loggedOn
+    logged-unlisted e = rw e
+
+-- a logon does the same before and after the number advances
+pub logon-later : (s : Status) (n : ℕ) (f : Feed) (t : List ℕ) → loggedOn s (stateOf (advanced n f) t) ≡ onFeed (advanced n) (loggedOn s (stateOf f t))
+unfolding loggedOn
+logon-later Opens n f t = go (f .fresh)
+  where
+    go : (b : Bool) → onFeed enterLive (cond b (cleared (stateOf (advanced n f) t)) (stateOf (advanced n f) t)) ≡ onFeed (advanced n) (onFeed enterLive (cond b (cleared (stateOf f t)) (stateOf f t)))
+    go true = refl
+    go false = refl
+logon-later Refills n f t = refl
+logon-later Stays n f t = refl
+logon-later Closes n f t = refl
+logon-later Unlisted n f t = refl
+
+pub ruleset parts = (
+  needs,
+  same-phase,
+  deaf-idle,
+  deaf-lost,
+  deaf-closed,
+  no-phase,
+  limit-low,
+  limit-high,
+  no-limit,
+  before-heard,
+  after-heard,
+  badge-on,
+  badge-off,
+  badge-plain,
+  byte-is,
+  is-book,
+  is-other,
+  is-market,
+  kind-read,
+  kind-by,
+  datum-by,
+  book-short,
+  book-long,
+  sized-by,
+  wrong-short,
+  wrong-length,
+  wrong-sized,
+  in-refreshing,
+  session-allowed,
+  market-allowed,
+  logout-allowed,
+  logon-listed,
+  logout-listed,
+  refresh-listed,
+  not-live,
+  seen-session,
+  seen-market,
+  no-status,
+  bye-6,
+  bye-102,
+  bye-103,
+  counted-all,
+  counted-none,
+  refuse-early,
+  refuse-deaf,
+  refuse-none,
+  answered-by,
+  spoilt-is,
+  live-is,
+  completed-is,
+  numbered-live,
+  numbered-not,
+  cleared-is,
+  new-taken,
+  new-refused,
+  fresh-needs,
+  whole-needs,
+  torn-needs,
+  opened-fresh,
+  opened-resumed,
+  refilled-is,
+  logged-by,
+  logged-stays,
+  logged-closes,
+  logged-unlisted,
+)

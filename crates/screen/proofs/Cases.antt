@@ -1,0 +1,67 @@
+-- What each conversion makes of what its calls gave. Assumes nothing.
+use Prim.Native.Nat.{ℕ}
+use mathlib.Core.Path.{_≡_, refl, sym, ap, _∙_}
+use mathlib.Core.Bool.{Bool, true, false}
+use mathlib.Core.List.{List}
+use borrow.Author.Needs.{needs}
+use borrow.Author.Tests.{eq-eqb, ne-eqb}
+use Rattle.feed.specs.Feeds.{phaseNo, phaseOf, newGiven}
+use Rattle.feed.specs.Events.{Tables, Event, Connect}
+use Rattle.feed.specs.Steps.{stateOf, outOf, Outcome, outcome}
+use Rattle.feed.specs.declared.Phase.{Phase}
+use Rattle.feed.specs.declared.Link.{Link}
+use Rattle.feed.specs.declared.Link.the-variants.{Fresh, Resuming}
+use Rattle.feed.specs.declared.Feed.{Feed}
+use Rattle.feed.specs.declared.Given.{Given}
+use Rattle.screen.specs.Plain.{yes, bit, linkOf, feedOf, plainFeed, plainGiven, plainOut, plainOutcome}
+use Rattle.screen.specs.declared.MmdhFeed.{MmdhFeed}
+use Rattle.screen.specs.declared.MmdhGiven.{MmdhGiven}
+
+pub not-yes : (n : ℕ) → n ≡ 0 → false ≡ yes n
+unfolding yes
+not-yes n e = rw (eq-eqb n 0 e)
+
+pub is-yes : (n : ℕ) → (n ≡ 0 → ⊥) → true ≡ yes n
+unfolding yes
+is-yes n e = rw (ne-eqb n 0 e)
+
+pub bit-one : (b : Bool) → b ≡ true → 1 ≡ bit b
+unfolding bit
+bit-one b e = rw e
+
+pub bit-none : (b : Bool) → b ≡ false → 0 ≡ bit b
+unfolding bit
+bit-none b e = rw e
+
+pub link-fresh : (n : ℕ) → n ≡ 0 → Fresh ≡ linkOf n
+unfolding linkOf
+link-fresh n e = rw (eq-eqb n 0 e)
+
+pub link-resuming : (n : ℕ) → (n ≡ 0 → ⊥) → Resuming ≡ linkOf n
+unfolding linkOf
+link-resuming n e = rw (ne-eqb n 0 e)
+
+pub as-feed : (f : MmdhFeed) (p : Phase) (w r : Bool) → p ≡ phaseOf (f .phase) → w ≡ yes (f .whole) → r ≡ yes (f .fresh)
+    → _≡_ {A = Feed} (record { phase = p; next = f .next; internal = f .internal; heard = f .heard; limit = f .limit; whole = w; fresh = r }) (feedOf f)
+as-feed f p w r a b c = rw (a, b, c)
+
+pub as-plain : (f : Feed) (p w r : ℕ) → p ≡ phaseNo (f .phase) → w ≡ bit (f .whole) → r ≡ bit (f .fresh)
+    → _≡_ {A = MmdhFeed} (record { phase = p; next = f .next; internal = f .internal; heard = f .heard; limit = f .limit; whole = w; fresh = r }) (plainFeed f)
+as-plain f p w r a b c = rw (a, b, c)
+
+pub as-given : (g : Given) (f : MmdhFeed) → f ≡ plainFeed (g .feed) → _≡_ {A = MmdhGiven} (record { answer = g .answer; used = g .used; feed = f }) (plainGiven g)
+as-given g f e = rw e
+
+pub new-plain : (limit : ℕ) (g : Given) (r : MmdhGiven) → g ≡ newGiven limit → r ≡ plainGiven g → r ≡ plainGiven (newGiven limit)
+new-plain limit g r e h = rw (← e) h
+
+pub connect-plain : (c : MmdhFeed) (f : Feed) (resuming time : ℕ) (link : Link) (g : Given) (r : MmdhGiven) → f ≡ feedOf c → link ≡ linkOf resuming
+    → ((x : Tables) → record { given = g; tables = x } ≡ outcome (record { feed = f; tables = x }) (Connect link time)) → r ≡ plainGiven g
+    → (x : Tables) → r ≡ plainGiven (outcome (record { feed = feedOf c; tables = x }) (Connect (linkOf resuming) time) .given)
+connect-plain c f resuming time link g r a b e h x = h ∙ rw (← a, ← b) (ap (λ (o : Outcome). plainGiven (o .given)) (e x))
+
+pub arrive-plain : (c : MmdhFeed) (f : Feed) (t u : List ℕ) (e : Event) (g : Given) (r : MmdhGiven) → f ≡ feedOf c
+    → outOf g u ≡ outcome (stateOf f t) e → r ≡ plainGiven g → plainOut r u ≡ plainOutcome (outcome (stateOf (feedOf c) t) e)
+arrive-plain c f t u e g r a q h = rw (h, ← a) (ap plainOutcome q)
+
+pub ruleset cases = (needs, not-yes, is-yes, bit-one, bit-none, link-fresh, link-resuming, as-feed, as-plain, as-given, new-plain, connect-plain, arrive-plain)

@@ -1,0 +1,66 @@
+-- Feeds, and what calls hand back, as the numbers of the C calls. Assumes nothing.
+use Prim.Native.Nat.{ℕ}
+use mathlib.Core.Bool.{Bool, true, false, cond, not}
+use mathlib.Core.List.{List}
+use lib.Dec.{eqb}
+use Rattle.books.specs.declared.RowRead.{RowRead}
+use Rattle.feed.specs.Feeds.{phaseNo, phaseOf}
+use Rattle.feed.specs.Steps.{Outcome}
+use Rattle.feed.specs.declared.Link.{Link}
+use Rattle.feed.specs.declared.Link.the-variants.{Fresh, Resuming}
+use Rattle.feed.specs.declared.Feed.{Feed}
+use Rattle.feed.specs.declared.Given.{Given}
+use Rattle.screen.specs.declared.MmdhFeed.{MmdhFeed}
+use Rattle.screen.specs.declared.MmdhGiven.{MmdhGiven}
+use Rattle.screen.specs.declared.MmdhRow.{MmdhRow}
+
+-- 0 is no, anything else yes; and back as 0 or 1
+unfoldable pub yes : ℕ → Bool
+yes n = not (eqb n 0)
+
+unfoldable pub bit : Bool → ℕ
+bit b = cond b 1 0
+
+-- a connect is resuming where the number is not 0
+unfoldable pub linkOf : ℕ → Link
+linkOf n = cond (eqb n 0) Fresh Resuming
+
+-- the feed of any seven numbers: an unknown phase is handled as Lost
+abbrev pub feedOf : MmdhFeed → Feed
+feedOf f = record {
+  phase = phaseOf (f .phase);
+  next = f .next;
+  internal = f .internal;
+  heard = f .heard;
+  limit = f .limit;
+  whole = yes (f .whole);
+  fresh = yes (f .fresh);
+}
+
+abbrev pub plainFeed : Feed → MmdhFeed
+plainFeed f = record {
+  phase = phaseNo (f .phase);
+  next = f .next;
+  internal = f .internal;
+  heard = f .heard;
+  limit = f .limit;
+  whole = bit (f .whole);
+  fresh = bit (f .fresh);
+}
+
+abbrev pub plainGiven : Given → MmdhGiven
+plainGiven g = record { answer = g .answer; used = g .used; feed = plainFeed (g .feed) }
+
+-- what a call hands back, with every word of the table after it
+pub record PlainOut : Type 0 where
+  pub given : MmdhGiven
+  pub books : List ℕ
+
+abbrev pub plainOut : MmdhGiven → List ℕ → PlainOut
+plainOut g t = record { given = g; books = t }
+
+abbrev pub plainOutcome : Outcome → PlainOut
+plainOutcome o = record { given = plainGiven (o .given); books = o .tables .books }
+
+abbrev pub plainRow : RowRead → MmdhRow
+plainRow r = record { answer = r .answer; price = r .price; quantity = r .quantity; orders = r .orders }

@@ -1,0 +1,175 @@
+// The library by plain C calls, for the screens: numbers, structs of numbers by value, and slices as pointer and length.
+ghost use mathlib.Core.Path.{_≡_};
+ghost use Rattle.books.specs.Reading.{readRow};
+ghost use Rattle.feed.specs.Feeds.{newGiven, plainBadge};
+ghost use Rattle.feed.specs.Events.{Tables, Connect, Arrive, Cut};
+ghost use Rattle.feed.specs.Steps.{stateOf, outcome};
+ghost use Rattle.screen.specs.Plain.{yes, bit, linkOf, feedOf, plainFeed, plainGiven, plainOut, plainOutcome, plainRow};
+
+use books::RowRead;
+use feed::Feed;
+use feed::Given;
+use feed::Link;
+
+// A feed as numbers: the phase from 0 to 6 in document 01's order, and whole and fresh as 0 (no) or anything else (yes).
+#[repr(C)]
+pub struct MmdhFeed {
+    pub phase: u64,
+    pub next: u64,
+    pub internal: u64,
+    pub heard: u64,
+    pub limit: u64,
+    pub whole: u64,
+    pub fresh: u64,
+}
+
+// What a call hands back: the answer, the bytes used, and the feed after it.
+#[repr(C)]
+pub struct MmdhGiven {
+    pub answer: u64,
+    pub used: u64,
+    pub feed: MmdhFeed,
+}
+
+// What reading a row gives.
+#[repr(C)]
+pub struct MmdhRow {
+    pub answer: u64,
+    pub price: i64,
+    pub quantity: u64,
+    pub orders: u64,
+}
+
+// A number as yes or no.
+fn is_yes(n: u64) -> bool
+    ensures { λ r. ⌜ r ≡ yes n ⌝ }
+{
+    if n == 0 {
+        return false;
+    }
+    true
+}
+
+// Yes or no as a number.
+fn bit_of(b: bool) -> u64
+    ensures { λ r. ⌜ r ≡ bit b ⌝ }
+{
+    if b {
+        return 1;
+    }
+    0
+}
+
+// The kind of a connect.
+fn link_of(resuming: u64) -> Link
+    ensures { λ r. ⌜ r ≡ linkOf resuming ⌝ }
+{
+    if resuming == 0 {
+        return Link::Fresh;
+    }
+    Link::Resuming
+}
+
+// The feed of some numbers.
+fn feed_of(f: MmdhFeed) -> Feed
+    ensures { λ r. ⌜ r ≡ feedOf f ⌝ }
+{
+    let phase = feed::phase_of(f.phase);
+    let whole = is_yes(f.whole);
+    let fresh = is_yes(f.fresh);
+    Feed {
+        phase,
+        next: f.next,
+        internal: f.internal,
+        heard: f.heard,
+        limit: f.limit,
+        whole,
+        fresh,
+    }
+}
+
+// The numbers of a feed.
+fn plain_feed(f: Feed) -> MmdhFeed
+    ensures { λ r. ⌜ r ≡ plainFeed f ⌝ }
+{
+    let p = f.phase;
+    let phase = feed::phase_number(p);
+    let whole = bit_of(f.whole);
+    let fresh = bit_of(f.fresh);
+    MmdhFeed {
+        phase,
+        next: f.next,
+        internal: f.internal,
+        heard: f.heard,
+        limit: f.limit,
+        whole,
+        fresh,
+    }
+}
+
+// The numbers of what a call hands back.
+fn plain_given(g: Given) -> MmdhGiven
+    ensures { λ r. ⌜ r ≡ plainGiven g ⌝ }
+{
+    let f = g.feed;
+    let feed = plain_feed(f);
+    MmdhGiven {
+        answer: g.answer,
+        used: g.used as u64,
+        feed,
+    }
+}
+
+// A new feed with a silence limit in milliseconds: 19 outside 1 to 600,000.
+#[no_mangle]
+pub extern "C" fn mmdh_new(limit: u64) -> MmdhGiven
+    ensures { λ r. ⌜ r ≡ plainGiven (newGiven limit) ⌝ }
+{
+    plain_given(Feed::new(limit))
+}
+
+// A connect: fresh where `resuming` is 0, else resuming.
+#[no_mangle]
+pub extern "C" fn mmdh_connect(feed: MmdhFeed, resuming: u64, time: u64) -> MmdhGiven
+    ensures { λ r. ⌜ ((x : Tables) → r ≡ plainGiven (outcome (record { feed = feedOf feed; tables = x }) (Connect (linkOf resuming) time) .given)) ⌝ }
+{
+    plain_given(feed_of(feed).connect(link_of(resuming), time))
+}
+
+// An arrival of bytes.
+#[no_mangle]
+pub extern "C" fn mmdh_arrive(feed: MmdhFeed, table: &mut [u64], bytes: &[u8], time: u64) -> MmdhGiven
+    ensures { λ r. ⌜ plainOut r (now (table .exit)) ≡ plainOutcome (outcome (stateOf (feedOf feed) (now (table .entry))) (Arrive (now (bytes .entry)) time)) ⌝ }
+{
+    plain_given(feed_of(feed).arrive(table, bytes, time))
+}
+
+// The two numbers and a message already cut.
+#[no_mangle]
+pub extern "C" fn mmdh_arrive_cut(feed: MmdhFeed, table: &mut [u64], seq: u32, internal: u32, message: &[u8], time: u64) -> MmdhGiven
+    ensures { λ r. ⌜ plainOut r (now (table .exit)) ≡ plainOutcome (outcome (stateOf (feedOf feed) (now (table .entry))) (Cut seq internal (now (message .entry)) time)) ⌝ }
+{
+    plain_given(feed_of(feed).arrive_cut(table, seq, internal, message, time))
+}
+
+// A row by code, side and rank.
+#[no_mangle]
+pub extern "C" fn mmdh_read_row(table: &[u64], code: u64, side: u64, rank: u64) -> MmdhRow
+    ensures { λ r. ⌜ r ≡ plainRow (readRow code side rank (now (table .entry))) ⌝ }
+{
+    let row = books::read_row(table, code, side, rank);
+    MmdhRow {
+        answer: row.answer,
+        price: row.price,
+        quantity: row.quantity,
+        orders: row.orders,
+    }
+}
+
+// The badge at a time: 1 green, 2 filling, 0 stale.
+#[no_mangle]
+pub extern "C" fn mmdh_badge(phase: u64, heard: u64, limit: u64, time: u64) -> u64
+    ensures { λ r. ⌜ r ≡ plainBadge phase heard limit time ⌝ }
+{
+    feed::badge_asked(phase, heard, limit, time)
+}
