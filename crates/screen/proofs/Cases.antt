@@ -1,6 +1,6 @@
 -- What each conversion makes of what its calls gave. Assumes nothing.
 use Prim.Native.Nat.{ℕ}
-use mathlib.Core.Path.{_≡_, refl, sym, ap, _∙_}
+use mathlib.Core.Path.{_≡_, ap, _∙_}
 use mathlib.Core.Bool.{Bool, true, false}
 use mathlib.Core.List.{List}
 use borrow.Author.Needs.{needs}
@@ -13,7 +13,9 @@ use Rattle.feed.specs.declared.Link.{Link}
 use Rattle.feed.specs.declared.Link.the-variants.{Fresh, Resuming}
 use Rattle.feed.specs.declared.Feed.{Feed}
 use Rattle.feed.specs.declared.Given.{Given}
-use Rattle.screen.specs.Plain.{yes, bit, linkOf, feedOf, plainFeed, plainGiven, plainOut, plainOutcome}
+use Rattle.screen.specs.Plain.{yes, bit, linkOf, feedOf, plainFeed, plainGiven, plainOut, plainOutcome, plainRow}
+use Rattle.books.specs.declared.RowRead.{RowRead}
+use Rattle.screen.specs.declared.MmdhRow.{MmdhRow}
 use Rattle.screen.specs.declared.MmdhFeed.{MmdhFeed}
 use Rattle.screen.specs.declared.MmdhGiven.{MmdhGiven}
 
@@ -64,4 +66,7 @@ pub arrive-plain : (c : MmdhFeed) (f : Feed) (t u : List ℕ) (e : Event) (g : G
     → outOf g u ≡ outcome (stateOf f t) e → r ≡ plainGiven g → plainOut r u ≡ plainOutcome (outcome (stateOf (feedOf c) t) e)
 arrive-plain c f t u e g r a q h = rw (h, ← a) (ap plainOutcome q)
 
-pub ruleset cases = (needs, not-yes, is-yes, bit-one, bit-none, link-fresh, link-resuming, as-feed, as-plain, as-given, new-plain, connect-plain, arrive-plain)
+pub row-plain : (x r : RowRead) → r ≡ x → _≡_ {A = MmdhRow} (record { answer = r .answer; price = r .price; quantity = r .quantity; orders = r .orders }) (plainRow x)
+row-plain x r e = ap plainRow e
+
+pub ruleset cases = (needs, not-yes, is-yes, bit-one, bit-none, link-fresh, link-resuming, as-feed, as-plain, as-given, new-plain, connect-plain, arrive-plain, row-plain)

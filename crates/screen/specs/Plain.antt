@@ -1,6 +1,6 @@
 -- Feeds, and what calls hand back, as the numbers of the C calls. Assumes nothing.
 use Prim.Native.Nat.{ℕ}
-use mathlib.Core.Bool.{Bool, true, false, cond, not}
+use mathlib.Core.Bool.{Bool, cond, not}
 use mathlib.Core.List.{List}
 use lib.Dec.{eqb}
 use Rattle.books.specs.declared.RowRead.{RowRead}

@@ -5,7 +5,6 @@ ghost use Rattle.feed.specs.Feeds.{newGiven, plainBadge};
 ghost use Rattle.feed.specs.Events.{Tables, Connect, Arrive, Cut};
 ghost use Rattle.feed.specs.Steps.{stateOf, outcome};
 ghost use Rattle.screen.specs.Plain.{yes, bit, linkOf, feedOf, plainFeed, plainGiven, plainOut, plainOutcome, plainRow};
-
 use books::RowRead;
 use feed::Feed;
 use feed::Given;
@@ -138,7 +137,12 @@ pub extern "C" fn mmdh_connect(feed: MmdhFeed, resuming: u64, time: u64) -> Mmdh
 
 // An arrival of bytes.
 #[no_mangle]
-pub extern "C" fn mmdh_arrive(feed: MmdhFeed, table: &mut [u64], bytes: &[u8], time: u64) -> MmdhGiven
+pub extern "C" fn mmdh_arrive(
+    feed: MmdhFeed,
+    table: &mut [u64],
+    bytes: &[u8],
+    time: u64,
+) -> MmdhGiven
     ensures { λ r. ⌜ plainOut r (now (table .exit)) ≡ plainOutcome (outcome (stateOf (feedOf feed) (now (table .entry))) (Arrive (now (bytes .entry)) time)) ⌝ }
 {
     plain_given(feed_of(feed).arrive(table, bytes, time))
@@ -146,7 +150,14 @@ pub extern "C" fn mmdh_arrive(feed: MmdhFeed, table: &mut [u64], bytes: &[u8], t
 
 // The two numbers and a message already cut.
 #[no_mangle]
-pub extern "C" fn mmdh_arrive_cut(feed: MmdhFeed, table: &mut [u64], seq: u32, internal: u32, message: &[u8], time: u64) -> MmdhGiven
+pub extern "C" fn mmdh_arrive_cut(
+    feed: MmdhFeed,
+    table: &mut [u64],
+    seq: u32,
+    internal: u32,
+    message: &[u8],
+    time: u64,
+) -> MmdhGiven
     ensures { λ r. ⌜ plainOut r (now (table .exit)) ≡ plainOutcome (outcome (stateOf (feedOf feed) (now (table .entry))) (Cut seq internal (now (message .entry)) time)) ⌝ }
 {
     plain_given(feed_of(feed).arrive_cut(table, seq, internal, message, time))
