@@ -16,7 +16,6 @@ use Rattle.feed.specs.Messages.{kind, onMarket, book}
 use Rattle.feed.specs.Events.{State, Event, News, Message, timeOf, onMessage}
 use Rattle.feed.specs.Answers.{Answer, Keep, Lose, Spoil, Skip, Take, number, isNext, tests, answerTo, reply, ofBook}
 use Rattle.feed.specs.Steps.{tablesAfter, does, taken, act, accepted, handed, outcome}
-use Rattle.feed.specs.declared.Datum.the-variants as datum
 use Rattle.promises.specs.Runs.{start, after, run}
 use Rattle.promises.specs.Demands as D
 use Rattle.promises.proofs.Refused as F
