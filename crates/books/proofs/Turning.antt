@@ -6,7 +6,7 @@ use mathlib.Core.Bool.{Bool, true, false, cond, not, _&&_}
 use mathlib.Core.List.{List, []}
 use mathlib.Core.Logic.{inl, inr}
 use mathlib.Core.Option.{Option, none, some}
-use lib.Dec.{leb, eqb}
+use lib.Dec.{leb}
 use lib.ListN.{length, take, drop, getD, length-drop, take-append-drop, drop-of-length-le}
 use lib.Seq.{take-all}
 use borrow.Author.Needs.{needs}
@@ -32,7 +32,7 @@ use Rattle.book.proofs.Walks.{one-byte, Few, walk-few}
 use Rattle.book.proofs.Tells.{loaded-bids, loaded-offers, loaded-book}
 use Rattle.book.proofs.Rounds.{book-in}
 use Rattle.books.specs.Table.{placeIn, block, unsoundAt, noneFree, bookAt, misfit, hasEntries, unsound, noSlot, misfits, bookAnswer, written, booksAfter}
-use Rattle.books.specs.Turns.{Met, met, settled, slotMet, within, placeMet}
+use Rattle.books.specs.Turns.{Met, met, settled, slotMet, within, placeMet, bookTurn}
 
 pub short-part : (m : List ℕ) → length m < 12 → [] ≡ drop 12 m
 short-part m h = sym (drop-of-length-le m {i = 12} (omega arith))
@@ -145,38 +145,34 @@ put-same : (k : ℕ) (t : List ℕ) → k < slotCount 64 (length t) → put 64 k
 put-same k t h =
     rw (block-at 64 (slotCount 64 (length t)) k t h, take-append-drop 64 (drop (64 * k) t), take-append-drop (64 * k) t)
 
--- what a message is answered on a table, and the table after it
-abbrev answered : ℕ → List ℕ → List ℕ → Met
-answered time m t = met (bookAnswer time m t) (cond (eqb (bookAnswer time m t) 0) (booksAfter time m t) t)
-
 -- the same by the slot, where all is listed and there are entries
 module _ (time : ℕ) (m t : List ℕ) (l : listedBook m ≡ true) (n : hasEntries m ≡ true) where
   settled-is : (k : ℕ) → k < slotCount 64 (length t) → (p : Slot) → (b : Book) → (r : Option Book) → placeIn (securityCode m) t ≡ p → bookAt p t ≡ b → walk time (entries m) b ≡ r
       → unsoundAt p t ≡ false → noneFree p ≡ false → ((x : Book) → written p (securityCode m) (some x) t ≡ put 64 k (wordsOf (securityCode m) x) t)
-      → within k t (settled (securityCode m) r (block k t)) ≡ answered time m t
+      → within k t (settled (securityCode m) r (block k t)) ≡ bookTurn time m t
   unfolding bookAnswer booksAfter unsound noSlot misfits misfit first
   settled-is k h p b none e eb ew s f w = rw (l, n, e, s, f, eb, ew) (ap (met 16) (put-same k t h))
   settled-is k h p b (some x) e eb ew s f w = rw (l, n, e, s, f, eb, ew) (sym (ap (met 0) (w x)))
 
-  unsound-is : (k : ℕ) → k < slotCount 64 (length t) → placeIn (securityCode m) t ≡ Held k → sound (block k t) ≡ false → within k t (met 18 (block k t)) ≡ answered time m t
+  unsound-is : (k : ℕ) → k < slotCount 64 (length t) → placeIn (securityCode m) t ≡ Held k → sound (block k t) ≡ false → within k t (met 18 (block k t)) ≡ bookTurn time m t
   unfolding bookAnswer unsound unsoundAt first
   unsound-is k h e y = rw (l, n, e, y) (ap (met 18) (put-same k t h))
 
   held-is : (k : ℕ) → k < slotCount 64 (length t) → placeIn (securityCode m) t ≡ Held k → (y : Bool) → sound (block k t) ≡ y
-      → within k t (cond (true && not y) (met 18 (block k t)) (settled (securityCode m) (walk time (entries m) (bookOf (block k t))) (block k t))) ≡ answered time m t
+      → within k t (cond (true && not y) (met 18 (block k t)) (settled (securityCode m) (walk time (entries m) (bookOf (block k t))) (block k t))) ≡ bookTurn time m t
   unfolding bookAt unsoundAt noneFree written
   held-is k h e true y = settled-is k h (Held k) (bookOf (block k t)) (walk time (entries m) (bookOf (block k t))) e refl refl (rw y) refl (λ x. refl)
   held-is k h e false y = unsound-is k h e y
 
-  free-is : (k : ℕ) → k < slotCount 64 (length t) → placeIn (securityCode m) t ≡ Free k → within k t (settled (securityCode m) (walk time (entries m) emptyBook) (block k t)) ≡ answered time m t
+  free-is : (k : ℕ) → k < slotCount 64 (length t) → placeIn (securityCode m) t ≡ Free k → within k t (settled (securityCode m) (walk time (entries m) emptyBook) (block k t)) ≡ bookTurn time m t
   unfolding bookAt unsoundAt noneFree written
   free-is k h e = settled-is k h (Free k) emptyBook (walk time (entries m) emptyBook) e refl refl refl refl (λ x. refl)
 
-  full-is : placeIn (securityCode m) t ≡ Full → met 17 t ≡ answered time m t
+  full-is : placeIn (securityCode m) t ≡ Full → met 17 t ≡ bookTurn time m t
   unfolding bookAnswer unsound noSlot unsoundAt noneFree first
   full-is e = rw (l, n, e)
 
-  placed-at : (p : Slot) → placeIn (securityCode m) t ≡ p → placeMet p (securityCode m) time (entries m) t ≡ answered time m t
+  placed-at : (p : Slot) → placeIn (securityCode m) t ≡ p → placeMet p (securityCode m) time (entries m) t ≡ bookTurn time m t
   unfolding placeMet slotMet
   placed-at (Held k) e = held-is k (taken-fits 64 (securityCode m) k t (inl e)) e (sound (block k t)) refl
   placed-at (Free k) e = free-is k (taken-fits 64 (securityCode m) k t (inr e)) e
@@ -189,14 +185,14 @@ unfolding listedBook
 both-listed m part c k a b ec ek ep ea eb = rw (one-byte 11 m, ← ek, ← ec, ← ep, ← ea, ← eb)
 
 module _ (time : ℕ) (m t part : List ℕ) (c k : ℕ) (a : Bool) (ec : c ≡ field 4 4 m) (ek : k ≡ getD m 11 0) (ep : part ≡ drop 12 m) (ea : a ≡ listedCode c) where
-  pub bad-code : a ≡ false → 15 ≡ bookAnswer time m t
+  pub bad-code : a ≡ false → met 15 t ≡ bookTurn time m t
   unfolding bookAnswer listedBook first
   bad-code n =
       let f : listedCode (field 4 4 m) ≡ false = ap listedCode (sym ec) ∙ sym ea ∙ n in
       rw f
 
   module _ (b : Bool) (eb : b ≡ all listedEntry (entriesFrom k 0 part)) where
-    pub bad-entry : a ≡ true → b ≡ false → 15 ≡ bookAnswer time m t
+    pub bad-entry : a ≡ true → b ≡ false → met 15 t ≡ bookTurn time m t
     unfolding bookAnswer first
     bad-entry y n = rw (both-listed m part c k a b ec ek ep ea eb, y, n)
 
@@ -206,29 +202,17 @@ module _ (time : ℕ) (m t part : List ℕ) (c k : ℕ) (a : Bool) (ec : c ≡ f
     count-is : noEntries m ≡ k
     count-is = one-byte 11 m ∙ sym ek
 
-    pub no-entries : a ≡ true → b ≡ true → k ≡ 0 → 0 ≡ bookAnswer time m t
-    unfolding bookAnswer unsound noSlot misfits first
+    pub no-entries : a ≡ true → b ≡ true → k ≡ 0 → met 0 t ≡ bookTurn time m t
+    unfolding bookAnswer booksAfter unsound noSlot misfits first
     no-entries y z e =
         let n : noEntries m ≡ 0 = count-is ∙ e in
         rw (listed-is y z, n)
 
-    pub no-change : a ≡ true → b ≡ true → k ≡ 0 → t ≡ booksAfter time m t
-    unfolding booksAfter
-    no-change y z e =
-        let n : noEntries m ≡ 0 = count-is ∙ e in
-        rw n
-
     module _ (r : ℕ) (u : List ℕ) (h : met r u ≡ placeMet (placeIn c t) c time (entriesFrom k 0 part) t) (y : a ≡ true) (z : b ≡ true) (nz : k ≡ 0 → ⊥) where
-      placed-is : met r u ≡ answered time m t
-      placed-is =
+      pub placed-turn : met r u ≡ bookTurn time m t
+      placed-turn =
           let more : hasEntries m ≡ true = lt-ltb 0 (noEntries m) (omega (arith, count-is, nz)) in
           (rw (ec, ← count-is, ep) at h) ∙ placed-at time m t (listed-is y z) more (placeIn (securityCode m) t) refl
-
-      pub placed-answer : r ≡ bookAnswer time m t
-      placed-answer = ap (λ (x : Met). x .answer) placed-is
-
-      pub placed-words : u ≡ cond (eqb r 0) (booksAfter time m t) t
-      placed-words = ap (λ (x : Met). x .words) placed-is ∙ rw placed-answer
 
 pub ruleset turning = (
   needs,
@@ -255,7 +239,5 @@ pub ruleset turning = (
   bad-code,
   bad-entry,
   no-entries,
-  no-change,
-  placed-answer,
-  placed-words,
+  placed-turn,
 )

@@ -3,13 +3,14 @@ use Prim.Native.Nat.{ℕ}
 use mathlib.Core.Bool.{Bool, true, false, cond, not, _&&_}
 use mathlib.Core.List.{List}
 use mathlib.Core.Option.{Option, none, some}
+use lib.Dec.{eqb}
 use Rattle.slots.specs.Slots.{put}
 use Rattle.slots.specs.declared.Slot.{Slot}
 use Rattle.slots.specs.declared.Slot.the-variants.{Held, Free, Full}
 use Rattle.book.specs.Walk.{Book, emptyBook, walk}
 use Rattle.book.specs.Words.{bookWidth, bookOf, wordsOf, sound}
 use Rattle.book.specs.declared.Entry.{Entry}
-use Rattle.books.specs.Table.{block}
+use Rattle.books.specs.Table.{block, bookAnswer, booksAfter}
 
 -- an answer, and the words afterwards
 pub record Met : Type 0 where
@@ -36,3 +37,7 @@ unfoldable pub placeMet : Slot → ℕ → ℕ → List Entry → List ℕ → M
 placeMet (Held k) c time es t = within k t (slotMet true c time es (block k t))
 placeMet (Free k) c time es t = within k t (slotMet false c time es (block k t))
 placeMet Full c time es t = met 17 t
+
+-- a book message on a table by itself: its answer, and every word afterwards. Only with 0 is anything written
+abbrev pub bookTurn : ℕ → List ℕ → List ℕ → Met
+bookTurn time m t = met (bookAnswer time m t) (cond (eqb (bookAnswer time m t) 0) (booksAfter time m t) t)

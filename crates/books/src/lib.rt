@@ -1,17 +1,16 @@
 // The lent table of books (document 01, "The book table"): a book message on it, and reading a row out of it.
 ghost use mathlib.Core.Path.{_≡_};
-ghost use mathlib.Core.Bool.{true, false, cond, _&&_};
+ghost use mathlib.Core.Bool.{true, false, _&&_};
 ghost use Prim.Native.Nat.{_+_, _-_, _*_, _<_, _≤_};
 ghost use lib.ListN.{length, drop};
-ghost use lib.Dec.{eqb};
 ghost use Rattle.slots.specs.Slots.{slotCount};
 ghost use Rattle.book.specs.Message.{entriesAt, entriesFrom, listedCode, listedSide, listedRank};
 ghost use Rattle.book.specs.Words.{rowOf};
 ghost use Rattle.wire.specs.Number.{word32};
 ghost use Rattle.book.specs.Walk.{walk as walkBook};
 ghost use Rattle.book.specs.Arrays.{Padded, bookIn};
-ghost use Rattle.books.specs.Table.{placeIn, block as blockOf, bookAnswer, booksAfter};
-ghost use Rattle.books.specs.Turns.{met, settled, slotMet, within, placeMet};
+ghost use Rattle.books.specs.Table.{placeIn, block as blockOf};
+ghost use Rattle.books.specs.Turns.{met, settled, slotMet, within, placeMet, bookTurn};
 ghost use Rattle.books.specs.Reading.{rowRefused, rowOfSide, rowOfBook, readRow};
 use book::Side;
 use slots::Slot;
@@ -132,8 +131,7 @@ fn entries_of(m: &[u8]) -> &[u8]
 
 // A book message on the table: 15, 18, 17, 16 or 0, in that order; only with 0 is anything written.
 pub fn take(table: &mut [u64], m: &[u8], time: u64) -> u64
-    ensures { λ r. ⌜ (r ≡ bookAnswer time (now (m .entry)) (now (table .entry)))
-        × (now (table .exit) ≡ cond (eqb r 0) (booksAfter time (now (m .entry)) (now (table .entry))) (now (table .entry))) ⌝ }
+    ensures { λ r. ⌜ met r (now (table .exit)) ≡ bookTurn time (now (m .entry)) (now (table .entry)) ⌝ }
 {
     let code = wire::u32_at(m, 4);
     let n = wire::byte_at(m, 11) as usize;

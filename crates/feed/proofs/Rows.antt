@@ -21,6 +21,7 @@ use Rattle.wire.proofs.Unit as the-unit
 use Rattle.wire.proofs.Fronts.{unit-fits, message-length}
 use Rattle.book.specs.Message.{listedBook}
 use Rattle.books.specs.Table.{unsound, noSlot, misfits, bookAnswer, booksAfter}
+use Rattle.books.specs.Turns.{Met, met, bookTurn}
 use Rattle.feed.specs.Messages.{kindOf, onMarket, market, book, wrongSize, statusOf, listed}
 use Rattle.feed.specs.Feeds.{deaf, inPhase, nextIs, internalIs, heardAt, wholeIs, freshIs}
 use Rattle.feed.specs.Events.{Tables, Event, Connect, Arrive, Cut, timeOf, Linked, Message, cutFrom, news, onMessage, newsSize, offered}
@@ -109,15 +110,20 @@ module _ (f : Feed) (t m : List ℕ) (n q i : ℕ) where
   unfolding first tests onMessage listed ofBook passed onMarket book bookAnswer
   book-answer k = rw (← k) (by-books (not (listedBook m)) (unsound m t) (noSlot m t) (misfits n m t))
 
-  module _ (a : ℕ) (u : List ℕ) (g : Given) (k : Market Book ≡ kindOf (field 2 2 m)) (e : a ≡ bookAnswer n m t)
-      (w : u ≡ cond (eqb a 0) (booksAfter n m t) t) where
+  module _ (a : ℕ) (u : List ℕ) (g : Given) (k : Market Book ≡ kindOf (field 2 2 m)) (h : met a u ≡ bookTurn n m t) where
+    e : a ≡ bookAnswer n m t
+    e = ap (λ (x : Met). x .answer) h
+
+    w : u ≡ cond (eqb a 0) (booksAfter n m t) t
+    w = ap (λ (x : Met). x .words) h ∙ rw e
+
     pub book-taken : (x : Feed) → a ≡ 0 → x ≡ advanced n (counted (Market Other) i f) → g ≡ answered 0 x → outOf g u ≡ outcomeFrom 8 (stateOf f t) (Cut q i m n)
     unfolding outcomeFrom handed timeOf news number act usedOf offered taken does tablesAfter counted market onMarket
-    book-taken x z b h = rw (book-answer k, ← e, w, z, ← k, h, b)
+    book-taken x z b l = rw (book-answer k, ← e, w, z, ← k, l, b)
 
     pub book-spoilt : (a ≡ 0 → ⊥) → g ≡ answered a (inPhase Lost (wholeIs false f)) → outOf g u ≡ outcomeFrom 8 (stateOf f t) (Cut q i m n)
     unfolding outcomeFrom handed timeOf news number act usedOf offered
-    book-spoilt z h = rw (book-answer k, ← e, w, ne-eqb a 0 z, h, cond-same {A = ℕ} (leb a 2) 0)
+    book-spoilt z l = rw (book-answer k, ← e, w, ne-eqb a 0 z, l, cond-same {A = ℕ} (leb a 2) 0)
 
   pub other-passed : (d : Datum) (x : Feed) (g : Given) → Market d ≡ kindOf (field 2 2 m) → d ≡ Other → x ≡ advanced n (counted (Market Other) i f)
       → g ≡ answered 2 x → outOf g t ≡ outcomeFrom 8 (stateOf f t) (Cut q i m n)

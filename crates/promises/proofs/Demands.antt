@@ -45,6 +45,9 @@ refused = F.refused
 pub one : D.One
 one = F.one-outcome
 
+pub same : D.Same
+same A x a b p q = p ∙ sym q
+
 -- DEMAND 2
 isAccepted : Answer → Bool
 isAccepted a = accepted (number a)

@@ -52,6 +52,10 @@ Refused = (s : State) (e : Event) → accepted (outcome s e .given .answer) ≡ 
 abbrev pub One : Type 0
 One = (s : State) (e : Event) (a b : Outcome) → a ≡ outcome s e → b ≡ outcome s e → a ≡ b
 
+-- every public contract says that what is handed back, with the words after it, is one value x: any two that it allows are the same
+abbrev pub Same : Type 1
+Same = (A : Type 0) (x a b : A) → a ≡ x → b ≡ x → a ≡ b
+
 -- DEMAND 2. "A counted message is acted on only when its number is the next"
 abbrev pub Next : Type 0
 Next =
