@@ -1,0 +1,113 @@
+/*
+ * mmdh: order books from the exchange's MMDH feed, and a badge that is green only with the right to be.
+ *
+ * The answers are the numbers of document 01; MMDH_* below names them. Every call is total: any feed, any table, any
+ * bytes and any time is answered, and nothing is kept between calls. Link with libscreen.a.
+ *
+ * The table is lent: 64 words a book, at most 4,096 books; words behind the last whole book are never read or written.
+ * Start with all words zero, lend the same table at every call, and hand in the feed that the call before handed back.
+ * Slices are a pointer and a length in elements. The pointer must not be null, not even with length 0, and the table
+ * must not overlap the bytes.
+ */
+#ifndef MMDH_H
+#define MMDH_H
+
+#include <stddef.h>
+#include <stdint.h>
+
+#ifdef __cplusplus
+extern "C" {
+#endif
+
+/* Words of one book. */
+#define MMDH_BOOK_WORDS 64
+
+/* Answers. After MMDH_TAKEN, MMDH_SEEN and MMDH_PASSED bytes are used; every other answer writes nothing to the table. */
+enum {
+    MMDH_TAKEN = 0,          /* also a connect or a new feed that is accepted, and a row that is read */
+    MMDH_SEEN = 1,           /* internal number not above the last: numbers advance, nothing else */
+    MMDH_PASSED = 2,         /* a market message other than a book message */
+    MMDH_MORE = 3,           /* bytes are missing: call again with more */
+    MMDH_NO_ROW = 4,         /* reading a row only: no book, or no such row */
+    MMDH_EARLIER = 10,       /* the time is before the last heard time */
+    MMDH_NOT_LISTENING = 11, /* arrival in Idle, Lost or Closed */
+    MMDH_SIZE = 12,          /* wrong size: Lost */
+    MMDH_GAP = 13,           /* SeqNum is not the next: Lost */
+    MMDH_NOT_ALLOWED = 14,   /* type or internal number not allowed in the phase: Lost */
+    MMDH_FIELD = 15,         /* a field or status that is not listed: Lost and not whole */
+    MMDH_MISFIT = 16,        /* an entry does not fit: Lost and not whole */
+    MMDH_FULL = 17,          /* no slot is free: Lost and not whole */
+    MMDH_UNSOUND = 18,       /* the book is not sound: Lost and not whole */
+    MMDH_LIMIT = 19,         /* new feed, limit outside 1 to 600,000: a feed with limit 1,000 is handed back */
+    MMDH_CANNOT_RESUME = 20  /* resuming connect without its need */
+};
+
+/* Phases. A number above 6 is handled as Lost. */
+enum {
+    MMDH_IDLE = 0,
+    MMDH_WAIT_KEY = 1,
+    MMDH_WAIT_LOGON = 2,
+    MMDH_REFRESHING = 3,
+    MMDH_LIVE = 4,
+    MMDH_LOST = 5,
+    MMDH_CLOSED = 6
+};
+
+/* Badges. */
+enum {
+    MMDH_STALE = 0,
+    MMDH_GREEN = 1,
+    MMDH_FILLING = 2
+};
+
+/* A feed. whole and fresh: 0 is no, anything else yes. */
+typedef struct {
+    uint64_t phase;
+    uint64_t next;     /* the next SeqNum */
+    uint64_t internal; /* the last internal number */
+    uint64_t heard;    /* the last heard time, in milliseconds */
+    uint64_t limit;    /* the silence limit, in milliseconds */
+    uint64_t whole;
+    uint64_t fresh;
+} MmdhFeed;
+
+/* What a call hands back. */
+typedef struct {
+    uint64_t answer;
+    uint64_t used;
+    MmdhFeed feed;
+} MmdhGiven;
+
+/* A row: price in thousandths, as sent. With an answer other than 0 the rest is 0. */
+typedef struct {
+    uint64_t answer;
+    int64_t price;
+    uint64_t quantity;
+    uint64_t orders;
+} MmdhRow;
+
+/* A new feed with a silence limit in milliseconds. */
+MmdhGiven mmdh_new(uint64_t limit);
+
+/* A connect: fresh where resuming is 0, else resuming. */
+MmdhGiven mmdh_connect(MmdhFeed feed, uint64_t resuming, uint64_t time);
+
+/* Bytes that have arrived: at most one unit is taken from their front, and used says how long it was. */
+MmdhGiven mmdh_arrive(MmdhFeed feed, uint64_t *table, size_t table_len, const uint8_t *bytes, size_t bytes_len,
+                      uint64_t time);
+
+/* The two numbers of a header, and its message already cut. No bytes are used. */
+MmdhGiven mmdh_arrive_cut(MmdhFeed feed, uint64_t *table, size_t table_len, uint32_t seq, uint32_t internal,
+                          const uint8_t *message, size_t message_len, uint64_t time);
+
+/* A row by code, side (0 bid, 1 offer) and rank (1 to 10). */
+MmdhRow mmdh_read_row(const uint64_t *table, size_t table_len, uint64_t code, uint64_t side, uint64_t rank);
+
+/* The badge at a time, of a feed's phase, last heard time and limit: a limit outside 1 to 600,000 is stale. */
+uint64_t mmdh_badge(uint64_t phase, uint64_t heard, uint64_t limit, uint64_t time);
+
+#ifdef __cplusplus
+}
+#endif
+
+#endif
