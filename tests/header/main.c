@@ -1,0 +1,72 @@
+/* include/mmdh.h as a C program meets it: example 10's three units through the archive, the row they leave, the badge. */
+#include <stdio.h>
+#include <string.h>
+
+#include "mmdh.h"
+
+static int passed, failed;
+
+static void expect(const char *what, int holds) {
+    if (holds) {
+        passed++;
+    } else {
+        failed++;
+        printf("wrong: %s\n", what);
+    }
+}
+
+int main(int argc, char **argv) {
+    static uint64_t table[2 * MMDH_BOOK_WORDS + 1];
+    static uint8_t bytes[4096];
+    size_t n = 0, at = 0;
+    FILE *in = argc == 2 ? fopen(argv[1], "rb") : NULL;
+    if (!in) {
+        puts("say the file of example 10");
+        return 2;
+    }
+    n = fread(bytes, 1, sizeof bytes, in);
+    fclose(in);
+
+    expect("a limit of 0 is 19, with 1,000 instead", mmdh_new(0).answer == MMDH_LIMIT && mmdh_new(0).feed.limit == 1000);
+    MmdhGiven given = mmdh_new(1000);
+    expect("a new feed is Idle", given.answer == 0 && given.used == 0 && given.feed.phase == MMDH_IDLE && given.feed.next == 1);
+    expect("a new feed cannot resume", mmdh_connect(given.feed, 1, 5).answer == MMDH_CANNOT_RESUME);
+    given = mmdh_connect(given.feed, 0, 5);
+    expect("a fresh connect waits for the key", given.answer == 0 && given.feed.phase == MMDH_WAIT_KEY && given.feed.heard == 5);
+    expect("no bytes are More", mmdh_arrive(given.feed, table, 0, bytes, 0, 5).answer == MMDH_MORE);
+
+    table[128] = 77;
+    int units = 0;
+    MmdhFeed before = given.feed;
+    for (;;) {
+        before = given.feed;
+        given = mmdh_arrive(given.feed, table, 129, bytes + at, n - at, 6);
+        if (given.answer > MMDH_PASSED) break;
+        at += given.used;
+        units++;
+    }
+    expect("three units, then More", given.answer == MMDH_MORE && units == 3 && at == n);
+    expect("More leaves the feed", memcmp(&given.feed, &before, sizeof before) == 0);
+    expect("Live and whole", given.feed.phase == MMDH_LIVE && given.feed.whole == 1 && given.feed.next == 4 && given.feed.internal == 1);
+
+    MmdhRow row = mmdh_read_row(table, 129, 700, 0, 1);
+    expect("the row", row.answer == 0 && row.price == 9730 && row.quantity == 4000 && row.orders == 2);
+    expect("no second row", mmdh_read_row(table, 129, 700, 0, 2).answer == MMDH_NO_ROW);
+    expect("rank 11 is a bad field", mmdh_read_row(table, 129, 700, 0, 11).answer == MMDH_FIELD);
+    expect("the word behind the slots", table[128] == 77);
+
+    MmdhFeed f = given.feed;
+    expect("green to the limit", mmdh_badge(f.phase, f.heard, f.limit, 6) == MMDH_GREEN && mmdh_badge(f.phase, f.heard, f.limit, 1006) == MMDH_GREEN);
+    expect("stale beyond it and before", mmdh_badge(f.phase, f.heard, f.limit, 1007) == MMDH_STALE && mmdh_badge(f.phase, f.heard, f.limit, 5) == MMDH_STALE);
+    expect("an unknown phase is stale", mmdh_badge(7, f.heard, f.limit, 6) == MMDH_STALE);
+
+    MmdhGiven gap = mmdh_arrive_cut(f, table, 129, 9, 2, bytes + 72, 36, 7);
+    expect("a lost message is 13, and Lost", gap.answer == MMDH_GAP && gap.used == 0 && gap.feed.phase == MMDH_LOST && gap.feed.whole == 1);
+    expect("stale from then on", mmdh_badge(gap.feed.phase, gap.feed.heard, gap.feed.limit, 7) == MMDH_STALE);
+    MmdhGiven misfit = mmdh_arrive_cut(f, table, 129, 4, 2, bytes + 72, 36, 7);
+    expect("the same level again does not fit", misfit.answer == MMDH_MISFIT && misfit.feed.whole == 0);
+    expect("an earlier time is 10", mmdh_arrive_cut(f, table, 129, 4, 2, bytes + 72, 36, 5).answer == MMDH_EARLIER);
+
+    printf("%d passed, %d failed\n", passed, failed);
+    return failed != 0;
+}
