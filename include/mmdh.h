@@ -29,16 +29,16 @@ enum {
     MMDH_PASSED = 2,         /* a market message other than a book message */
     MMDH_MORE = 3,           /* bytes are missing: call again with more */
     MMDH_NO_ROW = 4,         /* reading a row only: no book, or no such row */
-    MMDH_EARLIER = 10,       /* the time is before the last heard time */
-    MMDH_NOT_LISTENING = 11, /* arrival in Idle, Lost or Closed */
-    MMDH_SIZE = 12,          /* wrong size: Lost */
-    MMDH_GAP = 13,           /* SeqNum is not the next: Lost */
+    MMDH_EARLY = 10,          /* the time is before the last heard time */
+    MMDH_NOT_OPEN = 11,      /* arrival in Idle, Lost or Closed */
+    MMDH_WRONG_SIZE = 12,    /* wrong size: Lost */
+    MMDH_NOT_NEXT = 13,      /* SeqNum is not the next: Lost */
     MMDH_NOT_ALLOWED = 14,   /* type or internal number not allowed in the phase: Lost */
-    MMDH_FIELD = 15,         /* a field or status that is not listed: Lost and not whole */
+    MMDH_NOT_LISTED = 15,    /* a field or status that is not listed: Lost and not whole */
     MMDH_MISFIT = 16,        /* an entry does not fit: Lost and not whole */
     MMDH_FULL = 17,          /* no slot is free: Lost and not whole */
     MMDH_UNSOUND = 18,       /* the book is not sound: Lost and not whole */
-    MMDH_LIMIT = 19,         /* new feed, limit outside 1 to 600,000: a feed with limit 1,000 is handed back */
+    MMDH_BAD_LIMIT = 19,     /* new feed, limit outside 1 to 600,000: a feed with limit 1,000 is handed back */
     MMDH_CANNOT_RESUME = 20  /* resuming connect without its need */
 };
 

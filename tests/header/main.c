@@ -27,7 +27,7 @@ int main(int argc, char **argv) {
     n = fread(bytes, 1, sizeof bytes, in);
     fclose(in);
 
-    expect("a limit of 0 is 19, with 1,000 instead", mmdh_new(0).answer == MMDH_LIMIT && mmdh_new(0).feed.limit == 1000);
+    expect("a limit of 0 is 19, with 1,000 instead", mmdh_new(0).answer == MMDH_BAD_LIMIT && mmdh_new(0).feed.limit == 1000);
     MmdhGiven given = mmdh_new(1000);
     expect("a new feed is Idle", given.answer == 0 && given.used == 0 && given.feed.phase == MMDH_IDLE && given.feed.next == 1);
     expect("a new feed cannot resume", mmdh_connect(given.feed, 1, 5).answer == MMDH_CANNOT_RESUME);
@@ -52,7 +52,7 @@ int main(int argc, char **argv) {
     MmdhRow row = mmdh_read_row(table, 129, 700, 0, 1);
     expect("the row", row.answer == 0 && row.price == 9730 && row.quantity == 4000 && row.orders == 2);
     expect("no second row", mmdh_read_row(table, 129, 700, 0, 2).answer == MMDH_NO_ROW);
-    expect("rank 11 is a bad field", mmdh_read_row(table, 129, 700, 0, 11).answer == MMDH_FIELD);
+    expect("rank 11 is a bad field", mmdh_read_row(table, 129, 700, 0, 11).answer == MMDH_NOT_LISTED);
     expect("the word behind the slots", table[128] == 77);
 
     MmdhFeed f = given.feed;
@@ -61,11 +61,11 @@ int main(int argc, char **argv) {
     expect("an unknown phase is stale", mmdh_badge(7, f.heard, f.limit, 6) == MMDH_STALE);
 
     MmdhGiven gap = mmdh_arrive_cut(f, table, 129, 9, 2, bytes + 72, 36, 7);
-    expect("a lost message is 13, and Lost", gap.answer == MMDH_GAP && gap.used == 0 && gap.feed.phase == MMDH_LOST && gap.feed.whole == 1);
+    expect("a lost message is 13, and Lost", gap.answer == MMDH_NOT_NEXT && gap.used == 0 && gap.feed.phase == MMDH_LOST && gap.feed.whole == 1);
     expect("stale from then on", mmdh_badge(gap.feed.phase, gap.feed.heard, gap.feed.limit, 7) == MMDH_STALE);
     MmdhGiven misfit = mmdh_arrive_cut(f, table, 129, 4, 2, bytes + 72, 36, 7);
     expect("the same level again does not fit", misfit.answer == MMDH_MISFIT && misfit.feed.whole == 0);
-    expect("an earlier time is 10", mmdh_arrive_cut(f, table, 129, 4, 2, bytes + 72, 36, 5).answer == MMDH_EARLIER);
+    expect("an earlier time is 10", mmdh_arrive_cut(f, table, 129, 4, 2, bytes + 72, 36, 5).answer == MMDH_EARLY);
 
     printf("%d passed, %d failed\n", passed, failed);
     return failed != 0;
