@@ -29,7 +29,7 @@ enum {
     MMDH_PASSED = 2,         /* a market message other than a book message */
     MMDH_MORE = 3,           /* bytes are missing: call again with more */
     MMDH_NO_ROW = 4,         /* reading a row only: no book, or no such row */
-    MMDH_EARLY = 10,          /* the time is before the last heard time */
+    MMDH_EARLY = 10,         /* the time is before the last heard time */
     MMDH_NOT_OPEN = 11,      /* arrival in Idle, Lost or Closed */
     MMDH_WRONG_SIZE = 12,    /* wrong size: Lost */
     MMDH_NOT_NEXT = 13,      /* SeqNum is not the next: Lost */
