@@ -1,21 +1,27 @@
 -- The customer's demands, proved: each is named as its statement in specs/Demands, with a small letter. Assumes nothing.
-use Prim.Native.Nat.{ℕ, zero}
+use Prim.Native.Nat.{ℕ, zero, suc, _+_, _≤_}
 use mathlib.Core.Path.{_≡_, refl, sym, ap, _∙_, subst}
 use mathlib.Core.Bool.{Bool, true, false, true≢false}
-use mathlib.Core.List.{List, [], _∷_}
+use mathlib.Core.List.{List, [], _∷_, _++_}
+use native.Mathlib.Omega.{arith}
+use lib.ListN.{length, take, drop}
 use lib.Dec.{T, leb, eqb}
 use borrow.Author.Tests.{not-false, eqb-true, leb-true}
 use Rattle.wire.specs.Choice.{oneOf, first, all}
 use Rattle.wire.proofs.Bools.{both}
+use Rattle.wire.specs.Units.{unitOf}
+use Rattle.wire.specs.declared.Unit.{Unit}
+use Rattle.wire.specs.declared.Unit.the-variants as unit
+use Rattle.wire.proofs.Fronts.{unit-fits, unit-stays}
 use Rattle.wire.proofs.Choices.{first-at, first-none, first-skips}
 use Rattle.books.specs.Table.{unsound, noSlot, misfits, booksAfter}
 use Rattle.books.proofs.Frames.{books-own, books-slots, books-other, books-length, books-tail, book-sound-in}
 use Rattle.book.proofs.Orders.{price-once}
 use Rattle.book.specs.declared.Way.the-variants.{Bid, Offer}
 use Rattle.feed.specs.Messages.{kind, onMarket, book}
-use Rattle.feed.specs.Events.{State, Event, News, Message, timeOf, onMessage}
+use Rattle.feed.specs.Events.{State, Event, News, Message, timeOf, cutFrom, news, offered, onMessage}
 use Rattle.feed.specs.Answers.{Answer, Keep, Lose, Spoil, Skip, Take, number, isNext, tests, answerTo, reply, ofBook}
-use Rattle.feed.specs.Steps.{tablesAfter, does, taken, act, accepted, handed, outcome}
+use Rattle.feed.specs.Steps.{tablesAfter, does, taken, act, accepted, usedOf, handed, outcome}
 use Rattle.promises.specs.Runs.{start, after, run}
 use Rattle.promises.specs.Demands as D
 use Rattle.promises.proofs.Refused as F
@@ -47,6 +53,26 @@ one = F.one-outcome
 
 pub same : D.Same
 same A x a b p q = p ∙ sym q
+
+-- n bytes behind the first k stay when bytes follow
+part-stays : (k n : ℕ) (a b : List ℕ) → k + n ≤ length a → take n (drop k (a ++ b)) ≡ take n (drop k a)
+part-stays zero zero a b h = refl
+part-stays zero (suc n) [] b h = absurd (let z : ⊥ = omega arith in z)
+part-stays zero (suc n) (x ∷ a) b h = ap (_∷_ x) (part-stays zero n a b (omega arith))
+part-stays (suc k) n [] b h = absurd (let z : ⊥ = omega arith in z)
+part-stays (suc k) n (x ∷ a) b h = part-stays k n a b (omega arith)
+
+news-stay : (a b : List ℕ) (u : Unit) → unitOf a ≡ u → (u ≡ unit.More → ⊥) → cutFrom (a ++ b) u ≡ cutFrom a u
+unfolding cutFrom
+news-stay a b unit.More e h = absurd (h refl)
+news-stay a b unit.Heartbeat e h = refl
+news-stay a b (unit.Message q i n) e h = ap (Message q i) (part-stays 20 n a b (unit-fits a q i n e))
+
+pub pieces : D.Pieces
+unfolding outcome handed timeOf news offered usedOf
+pieces s a b time h =
+    let e : cutFrom (a ++ b) (unitOf (a ++ b)) ≡ cutFrom a (unitOf a) = rw (unit-stays a b h) (news-stay a b (unitOf a) refl h) in
+    rw e
 
 -- DEMAND 2
 isAccepted : Answer → Bool

@@ -8,6 +8,8 @@ use lib.ListN.{length, drop, getD}
 use lib.Dec.{T, eqb}
 use Rattle.wire.specs.Choice.{oneOf, all}
 use Rattle.wire.specs.Number.{bytesOnly}
+use Rattle.wire.specs.Units.{unitOf}
+use Rattle.wire.specs.declared.Unit.the-variants as unit
 use Rattle.slots.specs.Slots.{slotCount, slotsOf}
 use Rattle.slots.specs.declared.Slot.the-variants.{Held, Free}
 use Rattle.book.specs.Message.{securityCode}
@@ -55,6 +57,10 @@ One = (s : State) (e : Event) (a b : Outcome) → a ≡ outcome s e → b ≡ ou
 -- every public contract says that what is handed back, with the words after it, is one value x: any two that it allows are the same
 abbrev pub Same : Type 1
 Same = (A : Type 0) (x a b : A) → a ≡ x → b ≡ x → a ≡ b
+
+-- what is answered to a unit that has come whole does not hang on the bytes behind it: a stream may come in any pieces
+abbrev pub Pieces : Type 0
+Pieces = (s : State) (a b : List ℕ) (time : ℕ) → (unitOf a ≡ unit.More → ⊥) → outcome s (Arrive (a ++ b) time) ≡ outcome s (Arrive a time)
 
 -- DEMAND 2. "A counted message is acted on only when its number is the next"
 abbrev pub Next : Type 0
