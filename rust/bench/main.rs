@@ -1,0 +1,111 @@
+//! Nanoseconds a message: single arrivals through the C calls, against the plain twin and the tuned one.
+//! 128 books, 2 to 4 entries a message, every message fits; all three must end with the same table.
+
+#![forbid(unsafe_code)]
+
+mod course;
+
+use course::{Course, Walker, WALKERS};
+use std::process::exit;
+use std::time::Instant;
+
+const USAGE: &str = "bench [--short | --emulated | --count library|plain|tuned SLOTS MESSAGES]";
+
+/// Slots of the table, messages of a pass, passes.
+const COURSES: [(usize, usize, usize); 3] = [(128, 10_000, 60), (512, 5_000, 60), (4_096, 1_500, 60)];
+
+/// Messages of a course whose instructions are counted; only some of them are walked.
+const COUNTED: usize = 1_500;
+
+/// The best pass of each, in nanoseconds a message, the three taking turns.
+fn measure(course: &Course, passes: usize) -> [f64; 3] {
+    let mut best = [f64::INFINITY; 3];
+    let start = course.table();
+    let mut table = course.table();
+    for _ in 0..passes {
+        for (walker, best) in WALKERS.iter().zip(&mut best) {
+            table.copy_from_slice(&start);
+            let began = Instant::now();
+            course.walk(*walker, &mut table, course.messages());
+            *best = best.min(began.elapsed().as_nanos() as f64 / course.messages() as f64);
+        }
+    }
+    best
+}
+
+/// All three end with the same table, every message taken.
+fn check(course: &Course) -> Result<(), String> {
+    let ends: Vec<_> = WALKERS.iter().map(|&walker| course.end(walker)).collect();
+    if ends.iter().any(|end| end.taken != course.messages()) {
+        return Err(format!("{} slots: a message was not taken", course.slots()));
+    }
+    if ends.iter().any(|end| end != &ends[0]) {
+        return Err(format!("{} slots: the tables at the end differ", course.slots()));
+    }
+    Ok(())
+}
+
+fn short() -> Result<(), String> {
+    for (slots, _, _) in COURSES {
+        let course = Course::new(slots, 300);
+        check(&course)?;
+        println!("{:>5} slots: {} messages, the same table three times", slots, course.messages());
+    }
+    Ok(())
+}
+
+fn full() -> Result<(), String> {
+    println!("nanoseconds a message, best of alternating passes");
+    println!("slots  library    plain    tuned  library/plain  library/tuned");
+    for (slots, messages, passes) in COURSES {
+        let course = Course::new(slots, messages);
+        check(&course)?;
+        let [library, plain, tuned] = measure(&course, passes);
+        let ratios = (library / plain, library / tuned);
+        println!("{:>5} {:>8.1} {:>8.1} {:>8.1} {:>14.2} {:>14.2}", slots, library, plain, tuned, ratios.0, ratios.1);
+    }
+    Ok(())
+}
+
+/// Walks some of a course with one walker, for whoever counts instructions.
+fn count(words: &[String]) -> Result<(), String> {
+    let walker = WALKERS.iter().find(|walker| words.first() == Some(&walker.name().to_string()));
+    let number = |at: usize| words.get(at).and_then(|word| word.parse().ok());
+    match (walker, number(1), number(2)) {
+        (Some(&walker), Some(slots), Some(messages)) => {
+            let course = Course::new(slots, COUNTED);
+            course.walk(walker, &mut course.table(), COUNTED.min(messages));
+            Ok(())
+        }
+        _ => Err(USAGE.to_string()),
+    }
+}
+
+fn main() {
+    let words: Vec<String> = std::env::args().skip(1).collect();
+    let done = match words.first().map(String::as_str) {
+        None => full(),
+        Some("--short") => short(),
+        Some("--emulated") => {
+            println!("under an emulator times mean nothing: only the tables are compared");
+            short()
+        }
+        Some("--count") => count(&words[1..]),
+        Some(_) => Err(USAGE.to_string()),
+    };
+    if let Err(fault) = done {
+        eprintln!("bench: {}", fault);
+        exit(1);
+    }
+}
+
+impl Walker {
+    /// As the command line has it.
+    fn name(self) -> &'static str {
+        match self {
+            Walker::Library => "library",
+            Walker::Plain => "plain",
+            Walker::Tuned => "tuned",
+        }
+    }
+}

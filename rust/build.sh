@@ -1,0 +1,129 @@
+#!/usr/bin/env bash
+# Builds the Rust side into target/rust with plain rustc, against target/staticlib/libscreen.a, and runs a part of it:
+#   bash rust/build.sh test [..]       the comparisons; the last line is 'N passed, 0 failed'
+#   bash rust/build.sh bench [--short] nanoseconds a message, or only that all three ways agree
+#   bash rust/build.sh paint [..]      six panels from a capture (--help)
+#   bash rust/build.sh capture [FILE]  writes captures/morning.bin anew
+#   bash rust/build.sh header          include/mmdh.h from a C program
+# The archive is x86-64. On an Arm machine all of this is built for x86-64 and run under an emulator.
+set -u
+cd "$(dirname "$0")/.." || exit 1
+out=target/rust
+archive=target/staticlib/libscreen.a
+packages="rustc libstd-rust-dev:amd64 gcc-x86-64-linux-gnu libc6-dev-amd64-cross qemu-user"
+
+fail() {
+    echo "build.sh: $*" >&2
+    exit 1
+}
+
+# x86-64: the machine's own compiler, its documentation tests too.
+native() {
+    command -v rustc >/dev/null 2>&1 || fail "no rustc on this machine"
+    rustc=rustc
+    cc=(cc)
+    flags=()
+    run=()
+}
+
+# Arm: Debian's compiler for x86-64, static programs, an emulator.
+emulated() {
+    if ! [ -x /usr/bin/rustc ] || ! [ -d /usr/lib/rustlib/x86_64-unknown-linux-gnu ] ||
+        ! command -v x86_64-linux-gnu-gcc >/dev/null 2>&1 || ! command -v qemu-x86_64 >/dev/null 2>&1; then
+        echo "installing $packages" >&2
+        # shellcheck disable=SC2086
+        { dpkg --add-architecture amd64 && apt-get update && apt-get install -y $packages; } >"$out/apt.log" 2>&1 ||
+            fail "could not install $packages (see $out/apt.log)"
+    fi
+    rustc=/usr/bin/rustc
+    cc=(x86_64-linux-gnu-gcc -static)
+    # the cross package's libm.a is a script with paths of another machine
+    mkdir -p "$out/x86"
+    for libm in /usr/x86_64-linux-gnu/lib/libm-[0-9]*.a; do
+        [ -e "$libm" ] && ln -sf "$libm" "$out/x86/libm.a"
+    done
+    flags=(--target x86_64-unknown-linux-gnu -C linker=x86_64-linux-gnu-gcc -C target-feature=+crt-static
+        -C relocation-model=static -L "native=$out/x86")
+    run=(qemu-x86_64)
+}
+
+compile() {
+    "$rustc" --edition 2021 -C opt-level=3 -C codegen-units=1 "${flags[@]}" --out-dir "$out" -L "$out" "$@" ||
+        fail "rustc failed on ${*: -1}"
+}
+
+library() {
+    compile --crate-type rlib --crate-name "$1" "${@:2}" "rust/$1/lib.rs"
+}
+
+program() {
+    local name=$1 crate externs=()
+    for crate in "${@:2}"; do externs+=(--extern "$crate=$out/lib$crate.rlib"); done
+    compile --crate-name "$name" "${externs[@]}" "rust/$name/main.rs"
+}
+
+over_archive() {
+    [ -f "$archive" ] || fail "no $archive; run rt staticlib screen first"
+    library mmdh -L "native=$(dirname "$archive")" -l static=screen
+}
+
+# The examples in the documentation, where the machine can run them as they are; the tests have the same ones.
+documentation() {
+    [ ${#run[@]} -eq 0 ] || return 0
+    command -v rustdoc >/dev/null 2>&1 || fail "no rustdoc on this machine"
+    rustdoc --test --edition 2021 --crate-name mmdh -L "$out" --extern "mmdh=$out/libmmdh.rlib" rust/mmdh/lib.rs \
+        >"$out/rustdoc.log" 2>&1 || { cat "$out/rustdoc.log" >&2; fail "an example in the documentation failed"; }
+    echo "examples in the documentation: $(grep -c '^test .* ok$' "$out/rustdoc.log") ok"
+}
+
+# The capture is what its program writes, and painted it fills, goes green and goes stale.
+painted() {
+    "${run[@]}" "$out/capture" "$out/morning.bin" >/dev/null || fail "the capture could not be written"
+    cmp -s "$out/morning.bin" captures/morning.bin || fail "captures/morning.bin is not what rust/capture writes"
+    local badges
+    badges=$("${run[@]}" "$out/paint" --plain "$out/morning.bin" | grep -oE 'filling|green|stale' | uniq | tr '\n' ' ')
+    [ "$badges" = "filling green stale green stale " ] || fail "the badges of the capture were: $badges"
+    echo "captures/morning.bin painted: $badges"
+}
+
+mkdir -p "$out" || fail "cannot make $out"
+case $(uname -m) in
+    x86_64) native ;;
+    aarch64) emulated ;;
+    *) fail "neither x86-64 nor Arm: $(uname -m)" ;;
+esac
+
+part=${1:-}
+[ $# -gt 0 ] && shift
+case $part in
+    test)
+        library twin && library exchange && over_archive
+        program tests twin exchange mmdh && program bench twin exchange mmdh
+        program paint mmdh && program capture exchange
+        documentation
+        painted
+        "${run[@]}" "$out/bench" --short || fail "the benchmark failed"
+        "${run[@]}" "$out/tests" "$@"
+        ;;
+    bench)
+        library twin && library exchange && over_archive
+        program bench twin exchange mmdh
+        [ ${#run[@]} -eq 0 ] || set -- --emulated
+        "${run[@]}" "$out/bench" "$@"
+        ;;
+    paint)
+        over_archive && program paint mmdh
+        "${run[@]}" "$out/paint" "$@"
+        ;;
+    capture)
+        library exchange && program capture exchange
+        "${run[@]}" "$out/capture" "$@"
+        ;;
+    header)
+        [ -f "$archive" ] || fail "no $archive; run rt staticlib screen first"
+        "${cc[@]}" -std=c11 -Wall -Wextra -pedantic -Werror -Iinclude -o "$out/header" tests/header/main.c "$archive" ||
+            fail "the C compiler failed on tests/header/main.c"
+        "${run[@]}" "$out/header" vectors/example10.in
+        ;;
+    *) fail "say test, bench [--short], paint .., capture or header" ;;
+esac

@@ -1,0 +1,163 @@
+//! Writes a capture: one connection's bytes of a believable morning, the same every time.
+//! Hub up about six, books fill, badges go green; once the line falls quiet, and in the end for good.
+
+#![forbid(unsafe_code)]
+
+use exchange::market::Market;
+use exchange::{header, message, refresh_complete, session};
+use std::path::Path;
+use std::process::exit;
+
+const SEED: u64 = 600;
+const FILE: &str = "captures/morning.bin";
+/// Six in the morning in Hong Kong, in milliseconds since 1970.
+const HUB_UP: u64 = 1_772_402_400_000;
+/// The last internal number that the refresh stands for.
+const REFRESHED: u32 = 58_001;
+
+/// Codes and the middle of their prices, in thousandths.
+#[rustfmt::skip]
+const LISTED: [(u32, i32); 48] = [
+    (1, 52_300), (2, 66_450), (3, 6_530), (5, 88_300), (11, 106_200), (16, 92_350), (27, 38_250), (66, 27_350),
+    (101, 8_120), (175, 17_480), (241, 4_960), (267, 9_870), (285, 41_150), (288, 7_430), (291, 26_900),
+    (316, 121_300), (322, 12_860), (386, 4_510), (388, 391_600), (669, 99_150), (688, 13_940), (700, 512_500),
+    (762, 8_730), (823, 41_350), (836, 19_660), (857, 7_840), (883, 18_920), (939, 7_620), (941, 83_450),
+    (968, 3_180), (981, 47_350), (992, 10_440), (1038, 52_750), (1044, 22_950), (1088, 33_450), (1093, 6_120),
+    (1109, 28_200), (1113, 35_650), (1177, 5_240), (1211, 98_750), (1299, 66_300), (1398, 5_870), (1810, 53_200),
+    (2318, 54_100), (2800, 24_660), (3690, 168_500), (3988, 4_410), (9988, 119_300),
+];
+
+/// A line: what has been sent so far, and when.
+struct Line {
+    bytes: Vec<u8>,
+    seq: u32,
+    internal: u32,
+    time: u64,
+}
+
+impl Line {
+    fn wait(&mut self, milliseconds: u64) {
+        self.time += milliseconds;
+    }
+
+    fn push(&mut self, seq: u32, internal: u32, message: &[u8]) {
+        self.bytes.extend_from_slice(&header(seq, internal, message.len(), self.time * 1_000_000));
+        self.bytes.extend_from_slice(message);
+    }
+
+    /// A counted message without an internal number.
+    fn send(&mut self, message: &[u8]) {
+        self.seq += 1;
+        self.push(self.seq, 0, message);
+    }
+
+    /// A counted message with the next internal number; these have gaps.
+    fn send_live(&mut self, message: &[u8], gap: u32) {
+        self.seq += 1;
+        self.internal += 1 + gap;
+        self.push(self.seq, self.internal, message);
+    }
+
+    /// A header with nothing behind it, and the number of the message before.
+    fn heartbeat(&mut self) {
+        self.push(self.seq, 0, &[]);
+    }
+}
+
+/// A message about one code.
+fn about(kind: u16, len: usize, code: u32) -> Vec<u8> {
+    let mut message = message(kind, len);
+    message[4..8].copy_from_slice(&code.to_le_bytes());
+    message
+}
+
+/// SendKey, and a logon response that calls for a refresh.
+fn log_on(line: &mut Line) {
+    line.wait(120);
+    line.send(&message(1105, 532));
+    line.wait(480);
+    let mut response = session(1102, 101);
+    response[4] = 2;
+    line.send(&response);
+    line.wait(300);
+    line.send(&session(1202, 0));
+}
+
+/// The snapshot: what is listed, then the books, then its end.
+fn refresh(line: &mut Line, market: &mut Market) {
+    for _ in 0..4 {
+        line.send(&message(10, 40));
+    }
+    for k in 0..market.len() {
+        line.wait(8);
+        line.send(&about(11, 544, market.code(k)));
+    }
+    line.send(&message(20, 32));
+    for k in 0..market.len() {
+        line.wait(50);
+        for side in 0..2 {
+            let rows = 7 + market.dice().place(4);
+            let snapshot = market.snapshot(k, side, rows);
+            line.send(&snapshot);
+        }
+        line.send(&about(40, 12, market.code(k)));
+    }
+    line.wait(60);
+    line.internal = REFRESHED;
+    line.send(&refresh_complete(REFRESHED));
+}
+
+/// Updates as they come, busier at the front of the list, with messages between that no book takes.
+fn trade(line: &mut Line, market: &mut Market, updates: usize) {
+    for _ in 0..updates {
+        line.wait(market.dice().below(45));
+        let books = market.len();
+        let k = market.dice().place(books).min(market.dice().place(books));
+        let gap = market.dice().below(3) as u32;
+        if market.dice().once_in(5) {
+            let (kind, len) = market.dice().of(&[(52, 36), (40, 12), (60, 52), (20, 32), (56, 20)]);
+            line.send_live(&about(kind, len, market.code(k)), gap);
+        } else {
+            let entries = market.dice().of(&[1, 1, 2, 2, 3, 4]);
+            let update = market.update(k, entries);
+            line.send_live(&update, gap);
+        }
+    }
+}
+
+/// Heartbeats every two seconds.
+fn pause(line: &mut Line, heartbeats: usize) {
+    for _ in 0..heartbeats {
+        line.wait(2_000);
+        line.heartbeat();
+    }
+}
+
+fn morning() -> Vec<u8> {
+    let mut market = Market::new(SEED, &LISTED);
+    let mut line = Line { bytes: Vec::new(), seq: 0, internal: 0, time: HUB_UP };
+    log_on(&mut line);
+    refresh(&mut line, &mut market);
+    trade(&mut line, &mut market, 350);
+    pause(&mut line, 2);
+    trade(&mut line, &mut market, 250);
+    // a line that falls quiet without a heartbeat, and comes back
+    line.wait(6_000);
+    line.heartbeat();
+    trade(&mut line, &mut market, 350);
+    pause(&mut line, 2);
+    line.bytes
+}
+
+fn main() {
+    let file = std::env::args().nth(1).unwrap_or_else(|| FILE.to_string());
+    let bytes = morning();
+    if let Some(folder) = Path::new(&file).parent() {
+        let _ = std::fs::create_dir_all(folder);
+    }
+    if let Err(fault) = std::fs::write(&file, &bytes) {
+        eprintln!("capture: {}: {}", file, fault);
+        exit(1);
+    }
+    println!("{}: {} bytes", file, bytes.len());
+}

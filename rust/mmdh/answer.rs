@@ -1,0 +1,108 @@
+//! Document 01's answers.
+
+use std::fmt;
+
+/// What a call answers. The numbers are document 01's.
+///
+/// ```
+/// use mmdh::Answer;
+/// assert_eq!(Answer::NotNext.number(), 13);
+/// assert!(Answer::Seen.is_accepted() && !Answer::More.is_accepted());
+/// assert_eq!(Answer::NotNext.to_string(), "the sequence number is not the next");
+/// ```
+#[must_use]
+#[derive(Clone, Copy, PartialEq, Eq, Hash, Debug)]
+pub enum Answer {
+    /// 0: taken; a connect or a new feed accepted; a row read.
+    Taken,
+    /// 1: a market message that was there already, by its internal number.
+    Seen,
+    /// 2: a market message of which nothing is kept.
+    Passed,
+    /// 3: no whole unit yet; hand in the same bytes again with more behind them.
+    More,
+    /// 4: no book for the code, or no such row in it.
+    NoRow,
+    /// 10: the time lies before the last heard time.
+    Early,
+    /// 11: an arrival in Idle, Lost or Closed.
+    NotOpen,
+    /// 12: a size is wrong.
+    WrongSize,
+    /// 13: the sequence number is not the next.
+    NotNext,
+    /// 14: the type or the internal number is not allowed in this phase.
+    NotAllowed,
+    /// 15: a status, code, side, level or action is not listed.
+    NotListed,
+    /// 16: an entry does not fit the book.
+    Misfit,
+    /// 17: the code has no book and no slot is free.
+    Full,
+    /// 18: the code's book in the table is not sound.
+    Unsound,
+    /// 19: a silence limit outside 1 to 600,000 ms.
+    BadLimit,
+    /// 20: resuming without a whole table and an internal number to resume from.
+    CannotResume,
+}
+
+/// Every answer with its number and its sentence.
+const SENTENCES: [(u64, Answer, &str); 16] = [
+    (0, Answer::Taken, "taken"),
+    (1, Answer::Seen, "seen before"),
+    (2, Answer::Passed, "passed over"),
+    (3, Answer::More, "more bytes are needed for a whole unit"),
+    (4, Answer::NoRow, "there is no such row"),
+    (10, Answer::Early, "the time is before the last heard time"),
+    (11, Answer::NotOpen, "the feed is not open for arrivals"),
+    (12, Answer::WrongSize, "the message has a wrong size"),
+    (13, Answer::NotNext, "the sequence number is not the next"),
+    (14, Answer::NotAllowed, "the type or the internal number is not allowed in this phase"),
+    (15, Answer::NotListed, "a status, code, side, level or action is not listed"),
+    (16, Answer::Misfit, "an entry does not fit the book"),
+    (17, Answer::Full, "the code has no book and no slot is free"),
+    (18, Answer::Unsound, "the book in the table is not sound"),
+    (19, Answer::BadLimit, "the silence limit is outside 1 to 600,000 ms"),
+    (20, Answer::CannotResume, "there is nothing whole to resume from"),
+];
+
+impl Answer {
+    /// Document 01's number.
+    pub fn number(self) -> u64 {
+        self.entry().0
+    }
+
+    /// Whether this is 0, 1 or 2.
+    pub fn is_accepted(self) -> bool {
+        matches!(self, Answer::Taken | Answer::Seen | Answer::Passed)
+    }
+
+    /// The answer with this number, if there is one.
+    pub fn from_number(number: u64) -> Option<Answer> {
+        SENTENCES.iter().find(|entry| entry.0 == number).map(|entry| entry.1)
+    }
+
+    /// All answers, by rising numbers.
+    pub fn all() -> impl Iterator<Item = Answer> {
+        SENTENCES.iter().map(|entry| entry.1)
+    }
+
+    /// The answer that a call gave; the calls are proved to give no other number.
+    pub(crate) fn given(number: u64) -> Answer {
+        match Answer::from_number(number) {
+            Some(answer) => answer,
+            None => unreachable!("the archive gave {}, which document 01 does not list", number),
+        }
+    }
+
+    fn entry(self) -> &'static (u64, Answer, &'static str) {
+        SENTENCES.iter().find(|entry| entry.1 == self).expect("every answer has its line")
+    }
+}
+
+impl fmt::Display for Answer {
+    fn fmt(&self, f: &mut fmt::Formatter<'_>) -> fmt::Result {
+        f.pad(self.entry().2)
+    }
+}

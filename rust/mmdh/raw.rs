@@ -1,0 +1,113 @@
+//! The C calls as they are: plain numbers in, plain numbers out.
+//!
+//! Every number has an answer, so nothing has to be checked before a call. An unknown phase is handled as Lost;
+//! for `whole`, `fresh` and `resuming` 0 is no and anything else yes.
+
+/// A feed in plain numbers.
+#[repr(C)]
+#[derive(Clone, Copy, PartialEq, Eq, Debug, Default)]
+pub struct MmdhFeed {
+    /// 0 to 6: Idle, WaitKey, WaitLogon, Refreshing, Live, Lost, Closed.
+    pub phase: u64,
+    /// The next SeqNum.
+    pub next: u64,
+    /// The last internal number.
+    pub internal: u64,
+    /// The last heard time, in milliseconds.
+    pub heard: u64,
+    /// The silence limit, in milliseconds.
+    pub limit: u64,
+    /// Whether the table holds all that was sent.
+    pub whole: u64,
+    /// Whether the last accepted connect was fresh.
+    pub fresh: u64,
+}
+
+/// What a call on a feed hands back.
+#[repr(C)]
+#[derive(Clone, Copy, PartialEq, Eq, Debug, Default)]
+pub struct MmdhGiven {
+    /// Document 01's number.
+    pub answer: u64,
+    /// Bytes used of those handed in.
+    pub used: u64,
+    /// The feed after the call.
+    pub feed: MmdhFeed,
+}
+
+/// What reading a row hands back.
+#[repr(C)]
+#[derive(Clone, Copy, PartialEq, Eq, Debug, Default)]
+pub struct MmdhRow {
+    /// Document 01's number.
+    pub answer: u64,
+    /// Thousandths, signed as sent.
+    pub price: i64,
+    /// Shares.
+    pub quantity: u64,
+    /// Orders.
+    pub orders: u64,
+}
+
+extern "C" {
+    fn mmdh_new(limit: u64) -> MmdhGiven;
+    fn mmdh_connect(feed: MmdhFeed, resuming: u64, time: u64) -> MmdhGiven;
+    fn mmdh_arrive(feed: MmdhFeed, table: *mut u64, words: usize, bytes: *const u8, len: usize, time: u64)
+        -> MmdhGiven;
+    fn mmdh_arrive_cut(
+        feed: MmdhFeed,
+        table: *mut u64,
+        words: usize,
+        seq: u32,
+        internal: u32,
+        message: *const u8,
+        len: usize,
+        time: u64,
+    ) -> MmdhGiven;
+    fn mmdh_read_row(table: *const u64, words: usize, code: u64, side: u64, rank: u64) -> MmdhRow;
+    fn mmdh_badge(phase: u64, heard: u64, limit: u64, time: u64) -> u64;
+}
+
+/// A new feed with a silence limit.
+#[inline]
+pub fn new(limit: u64) -> MmdhGiven {
+    // SAFETY: numbers by value only; the call is proved to answer for every one and touches no memory of ours.
+    unsafe { mmdh_new(limit) }
+}
+
+/// A connect; `resuming` 0 is fresh.
+#[inline]
+pub fn connect(feed: MmdhFeed, resuming: u64, time: u64) -> MmdhGiven {
+    // SAFETY: numbers by value only, as above.
+    unsafe { mmdh_connect(feed, resuming, time) }
+}
+
+/// The first unit of a stream arrives.
+#[inline]
+pub fn arrive(feed: MmdhFeed, table: &mut [u64], bytes: &[u8], time: u64) -> MmdhGiven {
+    // SAFETY: both pointers come with the lengths of the slices they are from. The call reads and writes only
+    // within the table and reads only within the bytes, keeps neither, and `&mut` says that the two lie apart.
+    unsafe { mmdh_arrive(feed, table.as_mut_ptr(), table.len(), bytes.as_ptr(), bytes.len(), time) }
+}
+
+/// A message already cut arrives, with the header's two numbers.
+#[inline]
+pub fn arrive_cut(feed: MmdhFeed, table: &mut [u64], seq: u32, internal: u32, message: &[u8], time: u64) -> MmdhGiven {
+    let (words, len) = (table.len(), message.len());
+    // SAFETY: as for `arrive`, with the message for the bytes.
+    unsafe { mmdh_arrive_cut(feed, table.as_mut_ptr(), words, seq, internal, message.as_ptr(), len, time) }
+}
+
+/// Reads a row by code, side (0 bid, 1 offer) and rank (1 to 10).
+#[inline]
+pub fn read_row(table: &[u64], code: u64, side: u64, rank: u64) -> MmdhRow {
+    // SAFETY: pointer and length are one slice's; the call reads within it, writes nothing and keeps nothing.
+    unsafe { mmdh_read_row(table.as_ptr(), table.len(), code, side, rank) }
+}
+
+/// The badge: 0 Stale, 1 Green, 2 Filling.
+#[inline]
+pub fn badge(phase: u64, heard: u64, limit: u64, time: u64) -> u64 {
+    // SAFETY: numbers by value only, as above.
+    unsafe { mmdh_badge(phase, heard, limit, time) }
+}

@@ -1,0 +1,87 @@
+//! A capture as a line: its bytes come at the times that the headers were sent.
+
+const HEADER: usize = 20;
+/// A step of the sender's clock beyond this is not believed.
+const LONGEST_STEP: u64 = 60_000;
+
+pub struct Line {
+    bytes: Vec<u8>,
+    at: usize,
+    time: u64,
+    begins: u64,
+    ends: u64,
+}
+
+impl Line {
+    pub fn new(bytes: Vec<u8>) -> Line {
+        let begins = sent_at(&bytes).unwrap_or(0);
+        let mut line = Line { bytes, at: 0, time: begins, begins, ends: begins };
+        line.ends = line.last_sent();
+        line
+    }
+
+    /// When the first unit was sent.
+    pub fn begins(&self) -> u64 {
+        self.begins
+    }
+
+    /// When the last unit was sent.
+    pub fn ends(&self) -> u64 {
+        self.ends
+    }
+
+    /// All bytes that are left, and their time, if the first unit of them was sent by then.
+    pub fn due(&mut self, time: u64) -> Option<(&[u8], u64)> {
+        let rest = &self.bytes[self.at..];
+        let sent = step(self.time, sent_at(rest)?);
+        if sent > time {
+            return None;
+        }
+        self.time = sent;
+        Some((rest, sent))
+    }
+
+    pub fn used(&mut self, bytes: usize) {
+        self.at += bytes;
+    }
+
+    /// Nothing more comes.
+    pub fn stop(&mut self) {
+        self.at = self.bytes.len();
+    }
+
+    fn last_sent(&self) -> u64 {
+        let (mut at, mut time) = (0, self.begins);
+        while let Some(sent) = self.bytes.get(at..).and_then(sent_at) {
+            time = step(time, sent);
+            at += unit_length(&self.bytes[at..]);
+        }
+        time
+    }
+}
+
+/// SendTime of the first unit, in milliseconds.
+fn sent_at(bytes: &[u8]) -> Option<u64> {
+    let nanoseconds = bytes.get(..HEADER)?[12..].try_into().ok()?;
+    Some(u64::from_le_bytes(nanoseconds) / 1_000_000)
+}
+
+/// The time after a unit: never back, never far ahead.
+fn step(time: u64, sent: u64) -> u64 {
+    sent.clamp(time, time.saturating_add(LONGEST_STEP))
+}
+
+fn unit_length(unit: &[u8]) -> usize {
+    let heartbeat = unit[..2] == [HEADER as u8, 0];
+    match unit.get(HEADER..HEADER + 2) {
+        Some(size) if !heartbeat => HEADER + usize::from(u16::from_le_bytes([size[0], size[1]])),
+        _ => HEADER,
+    }
+}
+
+/// Hong Kong's time of day.
+pub fn clock(time: u64) -> String {
+    let of_day = (time + 8 * 3_600_000) % 86_400_000;
+    let seconds = of_day / 1_000;
+    format!("{:02}:{:02}:{:02}.{}", seconds / 3_600, seconds / 60 % 60, seconds % 60, of_day % 1_000 / 100)
+}

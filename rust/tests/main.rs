@@ -1,0 +1,68 @@
+//! The library against the twin, call by call; the vectors and document 01's examples; the safe cover.
+//! The last line is 'N passed, M failed'.
+
+#![forbid(unsafe_code)]
+
+mod badges;
+mod cover;
+mod examples;
+mod grids;
+mod history;
+mod pair;
+mod program;
+mod runs;
+mod scene;
+mod singles;
+mod tally;
+
+use exchange::dice::Dice;
+use std::path::Path;
+use std::process::exit;
+
+const SEED: u64 = 0x0DD1_07C0_FFEE_D001;
+const ROUNDS: u64 = 2_400_000;
+const USAGE: &str = "tests [--seed N] [--rounds N] [--vectors FOLDER]";
+
+struct Options {
+    seed: u64,
+    rounds: u64,
+    vectors: String,
+}
+
+fn options() -> Option<Options> {
+    let mut options = Options { seed: SEED, rounds: ROUNDS, vectors: "vectors".to_string() };
+    let mut words = std::env::args().skip(1);
+    while let Some(word) = words.next() {
+        let value = words.next()?;
+        match word.as_str() {
+            "--seed" => options.seed = value.parse().ok()?,
+            "--rounds" => options.rounds = value.parse().ok()?,
+            "--vectors" => options.vectors = value,
+            _ => return None,
+        }
+    }
+    Some(options)
+}
+
+fn main() {
+    let options = options().unwrap_or_else(|| {
+        eprintln!("{}", USAGE);
+        exit(2)
+    });
+    println!("seed {} rounds {}", options.seed, options.rounds);
+    let mut pair = pair::Pair::default();
+    let mut dice = Dice::new(options.seed);
+    let inputs = program::check_vectors(&mut pair.tally, Path::new(&options.vectors));
+    program::check_damaged(&mut pair.tally, &mut dice, &inputs, options.rounds / 2_000);
+    examples::check(&mut pair);
+    cover::check(&mut pair.tally);
+    grids::check(&mut pair, &mut dice);
+    badges::check(&mut pair, &mut dice, options.rounds / 4);
+    singles::check(&mut pair, &mut dice, options.rounds);
+    singles::check_large(&mut pair, &mut dice, options.rounds / 3_000);
+    runs::check(&mut pair, &mut dice, options.rounds / 6_000, 500);
+    runs::check_market(&mut pair, (options.rounds / 40) as u32);
+    if !pair.tally.finish() {
+        exit(1);
+    }
+}

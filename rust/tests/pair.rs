@@ -1,0 +1,163 @@
+//! One call made twice: through the C calls and to the twin, then compared in answer, feed, bytes used and every word.
+
+use crate::tally::{Call, Tally};
+use mmdh::raw::{self, MmdhFeed, MmdhGiven, MmdhRow};
+use twin::{Feed, Given, Phase, Read};
+
+/// The twin's feed of plain numbers.
+pub fn twin_feed(plain: MmdhFeed) -> Feed {
+    Feed {
+        phase: Phase::of(plain.phase),
+        next: plain.next,
+        internal: plain.internal,
+        heard: plain.heard,
+        limit: plain.limit,
+        whole: plain.whole != 0,
+        fresh: plain.fresh != 0,
+    }
+}
+
+/// The plain numbers of the twin's feed.
+pub fn plain_feed(feed: Feed) -> MmdhFeed {
+    MmdhFeed {
+        phase: feed.phase as u64,
+        next: feed.next,
+        internal: feed.internal,
+        heard: feed.heard,
+        limit: feed.limit,
+        whole: u64::from(feed.whole),
+        fresh: u64::from(feed.fresh),
+    }
+}
+
+fn plain_given(given: Given) -> MmdhGiven {
+    MmdhGiven { answer: given.answer as u64, used: given.used, feed: plain_feed(given.feed) }
+}
+
+fn plain_row(read: Read) -> MmdhRow {
+    MmdhRow { answer: read.answer as u64, price: read.price, quantity: read.quantity, orders: read.orders }
+}
+
+/// Both sides' copies of a table, kept for use again.
+#[derive(Default)]
+pub struct Pair {
+    pub tally: Tally,
+    ours: Vec<u64>,
+    twins: Vec<u64>,
+}
+
+impl Pair {
+    pub fn new_feed(&mut self, limit: u64) -> MmdhGiven {
+        let ours = raw::new(limit);
+        self.tally.met(Call::New, ours.answer);
+        self.tally.same(&ours, &plain_given(twin::new(limit)), || format!("new {}", limit));
+        ours
+    }
+
+    pub fn connect(&mut self, feed: MmdhFeed, resuming: u64, time: u64) -> MmdhGiven {
+        let ours = raw::connect(feed, resuming, time);
+        let twins = twin::connect(twin_feed(feed), resuming != 0, time);
+        self.tally.met(Call::Connect, ours.answer);
+        self.tally
+            .same(&ours, &plain_given(twins), || format!("connect {:?} resuming {} time {}", feed, resuming, time));
+        ours
+    }
+
+    /// An arrival on a copy of the table; the library's words after it are in `after`.
+    pub fn arrive(&mut self, feed: MmdhFeed, table: &[u64], bytes: &[u8], time: u64) -> MmdhGiven {
+        self.lend(table);
+        let ours = raw::arrive(feed, &mut self.ours, bytes, time);
+        let twins = twin::arrive(twin_feed(feed), &mut self.twins, bytes, time);
+        self.tally.met(Call::Arrive, ours.answer);
+        self.compare(
+            &ours,
+            &plain_given(twins),
+            || format!("arrive {:?} time {}\n  bytes {:02x?}", feed, time, bytes),
+            table,
+        );
+        ours
+    }
+
+    /// A message already cut, on a copy of the table.
+    pub fn arrive_cut(
+        &mut self,
+        feed: MmdhFeed,
+        table: &[u64],
+        seq: u32,
+        internal: u32,
+        message: &[u8],
+        time: u64,
+    ) -> MmdhGiven {
+        self.lend(table);
+        let ours = raw::arrive_cut(feed, &mut self.ours, seq, internal, message, time);
+        let twins = twin::arrive_cut(twin_feed(feed), &mut self.twins, seq, internal, message, time);
+        let input = || {
+            format!("arrive_cut {:?} seq {} internal {} time {}\n  message {:02x?}", feed, seq, internal, time, message)
+        };
+        self.tally.met(Call::ArriveCut, ours.answer);
+        self.compare(&ours, &plain_given(twins), input, table);
+        ours
+    }
+
+    /// The tuned twin against the plain one.
+    pub fn tuned(&mut self, feed: MmdhFeed, table: &[u64], bytes: &[u8], time: u64) {
+        self.lend(table);
+        let mut after = twin_feed(feed);
+        let (answer, used) = twin::tuned::arrive(&mut after, &mut self.ours, bytes, time);
+        let twins = twin::arrive(twin_feed(feed), &mut self.twins, bytes, time);
+        let tuned = Given { answer, used, feed: after };
+        let good = tuned == twins && self.ours == self.twins;
+        self.tally
+            .holds(good, || format!("tuned {:?} time {}\n  bytes {:02x?}\n  {}", feed, time, bytes, words(table)));
+    }
+
+    pub fn read_row(&mut self, table: &[u64], code: u64, side: u64, rank: u64) -> MmdhRow {
+        let ours = raw::read_row(table, code, side, rank);
+        self.tally.met(Call::ReadRow, ours.answer);
+        let twins = plain_row(twin::read_row(table, code, side, rank));
+        self.tally.same(&ours, &twins, || format!("read_row {} {} {}\n  {}", code, side, rank, words(table)));
+        ours
+    }
+
+    pub fn badge(&mut self, phase: u64, heard: u64, limit: u64, time: u64) -> u64 {
+        let ours = raw::badge(phase, heard, limit, time);
+        let input = || format!("badge phase {} heard {} limit {} time {}", phase, heard, limit, time);
+        self.tally.same(&ours, &twin::badge(phase, heard, limit, time), input);
+        ours
+    }
+
+    /// The library's table after the last arrival.
+    pub fn after(&self) -> &[u64] {
+        &self.ours
+    }
+
+    fn lend(&mut self, table: &[u64]) {
+        for copy in [&mut self.ours, &mut self.twins] {
+            copy.clear();
+            copy.extend_from_slice(table);
+        }
+    }
+
+    fn compare(&mut self, ours: &MmdhGiven, twins: &MmdhGiven, input: impl FnOnce() -> String, table: &[u64]) {
+        let good = ours == twins && self.ours == self.twins;
+        let (after, wanted) = (&self.ours, &self.twins);
+        self.tally.holds(good, || {
+            let first = after.iter().zip(wanted).position(|(a, b)| a != b);
+            format!(
+                "{}\n  {}\n  library {:?}\n  twin    {:?}\n  first word that differs: {:?}",
+                input(),
+                words(table),
+                ours,
+                twins,
+                first.map(|at| (at, after[at], wanted[at]))
+            )
+        });
+    }
+}
+
+/// A table's length and its words that are not zero.
+fn words(table: &[u64]) -> String {
+    let set: Vec<String> =
+        table.iter().enumerate().filter(|(_, &w)| w != 0).take(200).map(|(at, w)| format!("{}:{}", at, w)).collect();
+    format!("table of {} words: {}", table.len(), set.join(" "))
+}

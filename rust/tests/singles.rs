@@ -1,0 +1,114 @@
+//! Single calls on random feeds, tables, bytes and times.
+
+use crate::pair::Pair;
+use crate::scene::{self, SLOT};
+use exchange::dice::Dice;
+use exchange::{Entry, CLEAR};
+use mmdh::raw::MmdhFeed;
+
+const LENGTHS: [usize; 14] = [0, 63, 64, 64, 64, 65, 127, 128, 128, 128, 129, 192, 192, 193];
+
+const LIVE: MmdhFeed = MmdhFeed { phase: 4, next: 1, internal: 0, heard: 0, limit: 1_000, whole: 1, fresh: 1 };
+
+/// Calls on one table before it is made anew.
+const CALLS: u64 = 10;
+
+/// Small tables, many calls.
+pub fn check(pair: &mut Pair, dice: &mut Dice, rounds: u64) {
+    pair.tally.part("single arrivals and row reads, library against twin");
+    for _ in 0..rounds / CALLS {
+        let words = dice.of(&LENGTHS);
+        let table = scene::table(dice, words);
+        for _ in 0..CALLS {
+            arrival(pair, dice, &table);
+        }
+    }
+    pair.tally.part("single connects and new feeds, library against twin");
+    for _ in 0..rounds / 4 {
+        let feed = scene::feed(dice);
+        let time = scene::time(dice, feed.heard);
+        pair.connect(feed, dice.of(&[0, 0, 1, 1, 2, u64::MAX]), time);
+        pair.new_feed(dice.of(&[0, 1, 2, 1_000, 599_999, 600_000, 600_001, u64::MAX]));
+        pair.new_feed(scene::edge(dice));
+    }
+    pair.tally.part("tuned twin against plain twin");
+    for _ in 0..rounds / 4 / CALLS {
+        let words = dice.of(&LENGTHS);
+        let table = scene::table(dice, words);
+        for _ in 0..CALLS {
+            let (feed, bytes, time) = stream(dice, &table);
+            pair.tuned(feed, &table, &bytes, time);
+        }
+    }
+}
+
+/// Tables of 128 slots, and around the most slots a table has.
+pub fn check_large(pair: &mut Pair, dice: &mut Dice, rounds: u64) {
+    pair.tally.part("single arrivals and row reads on tables of 8,192 words");
+    for _ in 0..rounds {
+        let table = scene::table(dice, 8_192);
+        for _ in 0..CALLS {
+            arrival(pair, dice, &table);
+        }
+    }
+    pair.tally.part("single arrivals and row reads on tables of 4,095 to 4,097 slots");
+    for slots in 4_095..=4_097 {
+        full(pair, dice, slots);
+    }
+}
+
+/// The last slot alone is free, or alone has the code, or is one slot too far.
+fn full(pair: &mut Pair, dice: &mut Dice, slots: usize) {
+    let mut table = Vec::with_capacity(slots * SLOT + 5);
+    for k in 0..slots {
+        table.extend_from_slice(&scene::book(dice, 1_000 + k as u64));
+    }
+    table.extend_from_slice(&[7; 5]);
+    let last = (slots - 1) * SLOT;
+    for in_last in [0, 700, 999 + slots as u64] {
+        table[last] = in_last;
+        for code in [700, 999 + slots as u64, 1_000] {
+            let entries = scene::entries(dice, &table, code);
+            whole_table(pair, &table, &exchange::book_message(code as u32, &entries));
+            whole_table(
+                pair,
+                &table,
+                &exchange::book_message(code as u32, &[Entry { action: CLEAR, ..Entry::default() }]),
+            );
+            pair.read_row(&table, code, dice.below(2), 1);
+        }
+    }
+    for status in [0, 101] {
+        let feed = MmdhFeed { phase: 2, ..LIVE };
+        pair.arrive(feed, &table, &exchange::unit(1, 0, &exchange::session(1102, status)), 1);
+    }
+}
+
+/// A message in Live and the same in Refreshing.
+fn whole_table(pair: &mut Pair, table: &[u64], message: &[u8]) {
+    pair.arrive(LIVE, table, &exchange::unit(1, 1, message), 1);
+    pair.arrive_cut(MmdhFeed { phase: 3, whole: 0, ..LIVE }, table, 1, 0, message, 1);
+}
+
+/// One arrival as a stream, then maybe the same message already cut, and a row read.
+fn arrival(pair: &mut Pair, dice: &mut Dice, table: &[u64]) {
+    let (feed, bytes, time) = stream(dice, table);
+    pair.arrive(feed, table, &bytes, time);
+    if dice.once_in(2) {
+        let from = if dice.once_in(10) { dice.place(bytes.len() + 1) } else { 20.min(bytes.len()) };
+        let (seq, internal) = scene::numbers(dice, &feed);
+        pair.arrive_cut(feed, table, seq, internal, &bytes[from..], time);
+    }
+    if dice.once_in(4) {
+        pair.read_row(table, dice.of(&scene::CODES), dice.below(2), 1 + dice.below(10));
+    }
+}
+
+fn stream(dice: &mut Dice, table: &[u64]) -> (MmdhFeed, Vec<u8>, u64) {
+    let feed = scene::feed(dice);
+    let message = scene::message(dice, feed.phase, table);
+    let (seq, internal) = scene::numbers(dice, &feed);
+    let bytes = scene::unit(dice, seq, internal, &message);
+    let time = scene::time(dice, feed.heard);
+    (feed, bytes, time)
+}

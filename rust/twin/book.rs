@@ -1,0 +1,267 @@
+//! Books: rows, sides of ten, entries, and one book message ("The book table", "Entries").
+
+use crate::unit::{u16_at, u32_at, u64_at};
+use crate::Answer;
+
+/// Words of one slot.
+pub const SLOT: usize = 64;
+/// Most slots of a table.
+pub const SLOTS: usize = 4096;
+/// Most rows of a side.
+pub const ROWS: usize = 10;
+/// Bytes of one entry.
+pub const ENTRY: usize = 24;
+
+const BIDS_AT: usize = 4;
+const OFFERS_AT: usize = 34;
+const ZERO_PRICE: u32 = 0x8000_0000;
+
+/// One row of a side.
+#[derive(Clone, Copy, PartialEq, Eq, Debug, Default)]
+pub struct Row {
+    /// Thousandths, as sent.
+    pub price: i32,
+    /// Shares.
+    pub quantity: u64,
+    /// Orders.
+    pub orders: u32,
+}
+
+impl Row {
+    /// The row in three words, if price and orders are below 2^32.
+    fn read(words: &[u64]) -> Option<Row> {
+        let price = u32::try_from(words[0]).ok()?;
+        let orders = u32::try_from(words[2]).ok()?;
+        Some(Row { price: (price ^ ZERO_PRICE) as i32, quantity: words[1], orders })
+    }
+
+    fn write(self, words: &mut [u64]) {
+        words[0] = u64::from(self.price as u32 ^ ZERO_PRICE);
+        words[1] = self.quantity;
+        words[2] = u64::from(self.orders);
+    }
+}
+
+/// Which side of a book.
+#[derive(Clone, Copy, PartialEq, Eq, Debug)]
+pub enum Way {
+    /// Best is highest.
+    Bid,
+    /// Best is lowest.
+    Offer,
+}
+
+impl Way {
+    fn better(self, price: i32, than: i32) -> bool {
+        match self {
+            Way::Bid => price > than,
+            Way::Offer => price < than,
+        }
+    }
+}
+
+/// One side: its rows, best first.
+#[derive(Clone, Copy, Default)]
+pub struct Side {
+    rows: [Row; ROWS],
+    count: usize,
+}
+
+impl Side {
+    /// The rows in use.
+    pub fn rows(&self) -> &[Row] {
+        &self.rows[..self.count]
+    }
+
+    /// The side that a slot's thirty words hold, if it is sound.
+    fn read(way: Way, count: u64, words: &[u64]) -> Option<Side> {
+        let count = usize::try_from(count).ok().filter(|&count| count <= ROWS)?;
+        let (used, unused) = words.split_at(3 * count);
+        if unused.iter().any(|&word| word != 0) {
+            return None;
+        }
+        let mut side = Side { count, ..Side::default() };
+        for (row, words) in side.rows.iter_mut().zip(used.chunks_exact(3)) {
+            *row = Row::read(words)?;
+        }
+        let falls = side.rows().windows(2).all(|pair| way.better(pair[0].price, pair[1].price));
+        falls.then_some(side)
+    }
+
+    fn write(&self, words: &mut [u64]) {
+        let (used, unused) = words.split_at_mut(3 * self.count);
+        for (row, words) in self.rows().iter().zip(used.chunks_exact_mut(3)) {
+            row.write(words);
+        }
+        unused.fill(0);
+    }
+
+    /// Whether a new row may stand at this place, counted from 0.
+    fn has_room(&self, way: Way, at: usize, price: i32) -> bool {
+        at <= self.count
+            && (at == 0 || way.better(self.rows[at - 1].price, price))
+            && (at == self.count || way.better(price, self.rows[at].price))
+    }
+
+    fn insert(&mut self, at: usize, row: Row) {
+        let kept = self.count.min(ROWS - 1);
+        self.rows.copy_within(at..kept, at + 1);
+        self.rows[at] = row;
+        self.count = kept + 1;
+    }
+
+    fn remove(&mut self, at: usize) {
+        self.rows.copy_within(at + 1..self.count, at);
+        self.count -= 1;
+    }
+
+    /// Applies one action to the row at this place; false where it does not fit.
+    fn apply(&mut self, way: Way, action: Action, at: usize, row: Row) -> bool {
+        match action {
+            Action::New => {
+                let fits = self.has_room(way, at, row.price);
+                if fits {
+                    self.insert(at, row);
+                }
+                fits
+            }
+            Action::Change => {
+                let fits = at < self.count && self.rows[at].price == row.price;
+                if fits {
+                    self.rows[at] = row;
+                }
+                fits
+            }
+            Action::Delete => {
+                let fits = at < self.count;
+                if fits {
+                    self.remove(at);
+                }
+                fits
+            }
+        }
+    }
+}
+
+#[derive(Clone, Copy)]
+enum Action {
+    New,
+    Change,
+    Delete,
+}
+
+/// One entry whose fields are listed.
+#[derive(Clone, Copy)]
+enum Entry {
+    Clear,
+    Row { way: Way, action: Action, at: usize, row: Row },
+}
+
+impl Entry {
+    /// The entry in 24 bytes, if side, level and action are listed.
+    fn read(bytes: &[u8]) -> Option<Entry> {
+        let action = match bytes[19] {
+            0 => Action::New,
+            1 => Action::Change,
+            2 => Action::Delete,
+            74 => return Some(Entry::Clear),
+            _ => return None,
+        };
+        let way = match u16_at(bytes, 16) {
+            0 => Way::Bid,
+            1 => Way::Offer,
+            _ => return None,
+        };
+        let level = usize::from(bytes[18]);
+        if !(1..=ROWS).contains(&level) {
+            return None;
+        }
+        let row = Row { quantity: u64_at(bytes, 0), price: u32_at(bytes, 8) as i32, orders: u32_at(bytes, 12) };
+        Some(Entry::Row { way, action, at: level - 1, row })
+    }
+}
+
+/// One book by value.
+#[derive(Clone, Copy, Default)]
+pub struct Book {
+    /// Bids, falling.
+    pub bids: Side,
+    /// Offers, rising.
+    pub offers: Side,
+}
+
+impl Book {
+    /// The book in a slot, if it is sound.
+    pub fn read(slot: &[u64]) -> Option<Book> {
+        if slot[3] != 0 {
+            return None;
+        }
+        let bids = Side::read(Way::Bid, slot[1], &slot[BIDS_AT..OFFERS_AT])?;
+        let offers = Side::read(Way::Offer, slot[2], &slot[OFFERS_AT..SLOT])?;
+        Some(Book { bids, offers })
+    }
+
+    fn write(&self, code: u64, slot: &mut [u64]) {
+        slot[0] = code;
+        slot[1] = self.bids.count as u64;
+        slot[2] = self.offers.count as u64;
+        slot[3] = 0;
+        self.bids.write(&mut slot[BIDS_AT..OFFERS_AT]);
+        self.offers.write(&mut slot[OFFERS_AT..SLOT]);
+    }
+
+    /// Applies one entry; false where it does not fit.
+    fn apply(&mut self, entry: Entry) -> bool {
+        match entry {
+            Entry::Clear => {
+                *self = Book::default();
+                true
+            }
+            Entry::Row { way: Way::Bid, action, at, row } => self.bids.apply(Way::Bid, action, at, row),
+            Entry::Row { way: Way::Offer, action, at, row } => self.offers.apply(Way::Offer, action, at, row),
+        }
+    }
+}
+
+/// The words of a table that belong to slots.
+pub fn slot_words(table: &[u64]) -> usize {
+    (table.len() / SLOT).min(SLOTS) * SLOT
+}
+
+/// The lowest slot with this word 0: a code, or 0 for a free one.
+pub fn find(table: &[u64], code: u64) -> Option<usize> {
+    table[..slot_words(table)].chunks_exact(SLOT).position(|slot| slot[0] == code)
+}
+
+/// The words of one slot.
+pub fn slot(table: &[u64], k: usize) -> &[u64] {
+    &table[SLOT * k..SLOT * (k + 1)]
+}
+
+/// Whether a code may be asked for or sent.
+pub fn code_listed(code: u64) -> bool {
+    (1..=99_999).contains(&code)
+}
+
+/// Takes a type 53 message of the right size, whole or not at all.
+pub fn take(table: &mut [u64], message: &[u8]) -> Result<(), Answer> {
+    let code = u64::from(u32_at(message, 4));
+    let entries = message[12..].chunks_exact(ENTRY);
+    if !code_listed(code) || entries.clone().any(|entry| Entry::read(entry).is_none()) {
+        return Err(Answer::NotListed);
+    }
+    if entries.len() == 0 {
+        return Ok(());
+    }
+    let (k, mut book) = match find(table, code) {
+        Some(k) => (k, Book::read(slot(table, k)).ok_or(Answer::Unsound)?),
+        None => (find(table, 0).ok_or(Answer::Full)?, Book::default()),
+    };
+    for entry in entries.filter_map(Entry::read) {
+        if !book.apply(entry) {
+            return Err(Answer::Misfit);
+        }
+    }
+    book.write(code, &mut table[SLOT * k..SLOT * (k + 1)]);
+    Ok(())
+}

@@ -1,0 +1,371 @@
+//! Document 01 in plain Rust, written from the document alone: the same calls over the same table of words.
+//! The library is compared with it, answer by answer and word by word.
+
+#![forbid(unsafe_code)]
+#![deny(missing_docs)]
+
+pub mod book;
+pub mod tuned;
+pub mod unit;
+
+use book::{Book, SLOT};
+use unit::{u16_at, u32_at, Unit, HEADER};
+
+/// Longest stretch of bytes that the program of example 10 holds.
+pub const BUFFER: usize = 65_536;
+
+/// Document 01's answers, by their numbers.
+#[derive(Clone, Copy, PartialEq, Eq, Debug)]
+pub enum Answer {
+    /// Taken.
+    Taken = 0,
+    /// Seen before.
+    Seen = 1,
+    /// A market message other than 53.
+    Passed = 2,
+    /// Not yet a whole unit.
+    More = 3,
+    /// No book or no such row.
+    NoRow = 4,
+    /// Time before last heard.
+    Early = 10,
+    /// Arrival in Idle, Lost or Closed.
+    NotOpen = 11,
+    /// Size wrong.
+    WrongSize = 12,
+    /// SeqNum not the next.
+    NotNext = 13,
+    /// Type or internal number not allowed in the phase.
+    NotAllowed = 14,
+    /// Status, code, side, level or action not listed.
+    NotListed = 15,
+    /// An entry does not fit.
+    Misfit = 16,
+    /// No slot free.
+    Full = 17,
+    /// The code's book is not sound.
+    Unsound = 18,
+    /// Limit outside 1 to 600,000.
+    BadLimit = 19,
+    /// Resuming without its need.
+    CannotResume = 20,
+}
+
+impl Answer {
+    /// Taken, Seen or Passed.
+    pub fn is_accepted(self) -> bool {
+        matches!(self, Answer::Taken | Answer::Seen | Answer::Passed)
+    }
+}
+
+/// Where a feed stands.
+#[derive(Clone, Copy, PartialEq, Eq, Debug)]
+#[allow(missing_docs)]
+pub enum Phase {
+    Idle,
+    WaitKey,
+    WaitLogon,
+    Refreshing,
+    Live,
+    Lost,
+    Closed,
+}
+
+impl Phase {
+    /// The phase of a number; an unknown one counts as Lost.
+    pub fn of(number: u64) -> Phase {
+        match number {
+            0 => Phase::Idle,
+            1 => Phase::WaitKey,
+            2 => Phase::WaitLogon,
+            3 => Phase::Refreshing,
+            4 => Phase::Live,
+            6 => Phase::Closed,
+            _ => Phase::Lost,
+        }
+    }
+}
+
+/// All that is kept of one feed.
+#[derive(Clone, Copy, PartialEq, Eq, Debug)]
+pub struct Feed {
+    /// Where it stands.
+    pub phase: Phase,
+    /// The next SeqNum.
+    pub next: u64,
+    /// The last internal number.
+    pub internal: u64,
+    /// The last heard time.
+    pub heard: u64,
+    /// The silence limit.
+    pub limit: u64,
+    /// Whether the table is whole.
+    pub whole: bool,
+    /// Whether the last accepted connect was fresh.
+    pub fresh: bool,
+}
+
+/// What a call hands back.
+#[derive(Clone, Copy, PartialEq, Eq, Debug)]
+pub struct Given {
+    /// The answer.
+    pub answer: Answer,
+    /// Bytes used.
+    pub used: u64,
+    /// The feed after the call.
+    pub feed: Feed,
+}
+
+/// What reading a row hands back.
+#[derive(Clone, Copy, PartialEq, Eq, Debug)]
+pub struct Read {
+    /// The answer.
+    pub answer: Answer,
+    /// Thousandths, as sent.
+    pub price: i64,
+    /// Shares.
+    pub quantity: u64,
+    /// Orders.
+    pub orders: u64,
+}
+
+fn limit_listed(limit: u64) -> bool {
+    (1..=600_000).contains(&limit)
+}
+
+/// A new feed.
+pub fn new(limit: u64) -> Given {
+    let (answer, limit) = if limit_listed(limit) { (Answer::Taken, limit) } else { (Answer::BadLimit, 1_000) };
+    let feed = Feed { phase: Phase::Idle, next: 1, internal: 0, heard: 0, limit, whole: false, fresh: true };
+    Given { answer, used: 0, feed }
+}
+
+/// A connect, fresh or resuming.
+pub fn connect(feed: Feed, resuming: bool, time: u64) -> Given {
+    if time < feed.heard {
+        return feed.unchanged(Answer::Early);
+    }
+    if resuming && !(feed.whole && feed.internal >= 1) {
+        return feed.unchanged(Answer::CannotResume);
+    }
+    let feed = Feed { phase: Phase::WaitKey, next: 1, heard: time, fresh: !resuming, ..feed };
+    Given { answer: Answer::Taken, used: 0, feed }
+}
+
+/// The first unit of a stream arrives.
+pub fn arrive(feed: Feed, table: &mut [u64], stream: &[u8], time: u64) -> Given {
+    if let Some(answer) = feed.shut(time) {
+        return feed.unchanged(answer);
+    }
+    match unit::cut(stream) {
+        Unit::More => feed.unchanged(Answer::More),
+        Unit::Heartbeat => Given { answer: Answer::Taken, used: HEADER as u64, feed: Feed { heard: time, ..feed } },
+        Unit::Message { seq, internal, message } => {
+            let given = feed.delivered(table, seq, internal, message, time);
+            let used = if given.answer.is_accepted() { HEADER + message.len() } else { 0 };
+            Given { used: used as u64, ..given }
+        }
+    }
+}
+
+/// A message already cut arrives.
+pub fn arrive_cut(feed: Feed, table: &mut [u64], seq: u32, internal: u32, message: &[u8], time: u64) -> Given {
+    match feed.shut(time) {
+        Some(answer) => feed.unchanged(answer),
+        None => feed.delivered(table, seq, internal, message, time),
+    }
+}
+
+/// The badge: 0 Stale, 1 Green, 2 Filling.
+pub fn badge(phase: u64, heard: u64, limit: u64, time: u64) -> u64 {
+    let quiet = match time.checked_sub(heard) {
+        Some(quiet) if limit_listed(limit) => quiet,
+        _ => return 0,
+    };
+    match phase {
+        4 if quiet <= limit => 1,
+        1..=3 if quiet <= limit => 2,
+        _ => 0,
+    }
+}
+
+/// Reads a row by code, side (0 bid, 1 offer) and rank (1 to 10).
+pub fn read_row(table: &[u64], code: u64, side: u64, rank: u64) -> Read {
+    let none = |answer| Read { answer, price: 0, quantity: 0, orders: 0 };
+    if !book::code_listed(code) || side > 1 || !(1..=10).contains(&rank) {
+        return none(Answer::NotListed);
+    }
+    let book = match book::find(table, code) {
+        None => return none(Answer::NoRow),
+        Some(k) => match Book::read(book::slot(table, k)) {
+            None => return none(Answer::Unsound),
+            Some(book) => book,
+        },
+    };
+    let rows = if side == 0 { book.bids.rows() } else { book.offers.rows() };
+    match rows.get(rank as usize - 1) {
+        None => none(Answer::NoRow),
+        Some(row) => Read {
+            answer: Answer::Taken,
+            price: i64::from(row.price),
+            quantity: row.quantity,
+            orders: u64::from(row.orders),
+        },
+    }
+}
+
+/// Types that are no market message.
+fn is_session(kind: u16) -> bool {
+    matches!(kind, 203 | 1101 | 1102 | 1103 | 1105 | 1201 | 1202)
+}
+
+/// Whether a given part is as long as its MsgSize and its type ask.
+fn size_right(message: &[u8]) -> bool {
+    let len = message.len();
+    if len < 4 || usize::from(u16_at(message, 0)) != len {
+        return false;
+    }
+    match u16_at(message, 2) {
+        203 | 1102 | 1103 | 1202 => len == 8,
+        53 => len >= 12 && len == 12 + 24 * usize::from(message[11]),
+        _ => true,
+    }
+}
+
+impl Feed {
+    fn unchanged(self, answer: Answer) -> Given {
+        Given { answer, used: 0, feed: self }
+    }
+
+    fn lost(self, answer: Answer) -> Given {
+        let spoilt = matches!(answer, Answer::NotListed | Answer::Misfit | Answer::Full | Answer::Unsound);
+        Given { answer, used: 0, feed: Feed { phase: Phase::Lost, whole: self.whole && !spoilt, ..self } }
+    }
+
+    /// Why no arrival is looked at, if so.
+    fn shut(self, time: u64) -> Option<Answer> {
+        if time < self.heard {
+            return Some(Answer::Early);
+        }
+        match self.phase {
+            Phase::Idle | Phase::Lost | Phase::Closed => Some(Answer::NotOpen),
+            _ => None,
+        }
+    }
+
+    /// Whether the phase allows this type with this internal number.
+    fn allows(self, kind: u16, internal: u32) -> bool {
+        let market = !is_session(kind);
+        kind == 1103
+            || match self.phase {
+                Phase::WaitKey => kind == 1105,
+                Phase::WaitLogon => kind == 1102,
+                Phase::Refreshing => kind == 1202 || kind == 203 || (market && internal == 0),
+                Phase::Live => market && internal >= 1,
+                Phase::Idle | Phase::Lost | Phase::Closed => false,
+            }
+    }
+
+    /// Answers 12 to 18, 0, 1 and 2 to a message.
+    fn delivered(self, table: &mut [u64], seq: u32, internal: u32, message: &[u8], time: u64) -> Given {
+        if !size_right(message) {
+            return self.lost(Answer::WrongSize);
+        }
+        if u64::from(seq) != self.next {
+            return self.lost(Answer::NotNext);
+        }
+        let kind = u16_at(message, 2);
+        if !self.allows(kind, internal) {
+            return self.lost(Answer::NotAllowed);
+        }
+        let heard = Feed { next: self.next + 1, heard: time, ..self };
+        let acted = if is_session(kind) {
+            heard.session(table, kind, message).map(|feed| (Answer::Taken, feed))
+        } else {
+            heard.market(table, kind, u64::from(internal), message)
+        };
+        match acted {
+            Ok((answer, feed)) => Given { answer, used: 0, feed },
+            Err(answer) => self.lost(answer),
+        }
+    }
+
+    /// A session message that the phase allows.
+    fn session(self, table: &mut [u64], kind: u16, message: &[u8]) -> Result<Feed, Answer> {
+        match kind {
+            1105 => Ok(Feed { phase: Phase::WaitLogon, ..self }),
+            1102 => self.logon(table, message[6]),
+            203 => Ok(Feed { phase: Phase::Live, whole: true, internal: u64::from(u32_at(message, 4)), ..self }),
+            1202 if message[4] == 0 => Ok(self),
+            1103 if matches!(message[4], 6 | 102 | 103) => Ok(Feed { phase: Phase::Closed, ..self }),
+            _ => Err(Answer::NotListed),
+        }
+    }
+
+    fn logon(self, table: &mut [u64], status: u8) -> Result<Feed, Answer> {
+        match status {
+            0 | 2 => {
+                let feed = if self.fresh { self.cleared(table) } else { self };
+                Ok(Feed { phase: Phase::Live, whole: true, ..feed })
+            }
+            101 => Ok(Feed { phase: Phase::Refreshing, ..self.cleared(table) }),
+            1 | 3 | 8 => Ok(self),
+            5 | 6 | 100 | 104 | 105 => Ok(Feed { phase: Phase::Closed, ..self }),
+            _ => Err(Answer::NotListed),
+        }
+    }
+
+    /// Zeroes all slots.
+    fn cleared(self, table: &mut [u64]) -> Feed {
+        let words = book::slot_words(table);
+        table[..words].fill(0);
+        Feed { internal: 0, whole: false, ..self }
+    }
+
+    /// A market message that the phase allows.
+    fn market(self, table: &mut [u64], kind: u16, internal: u64, message: &[u8]) -> Result<(Answer, Feed), Answer> {
+        let live = self.phase == Phase::Live;
+        if live && internal <= self.internal {
+            return Ok((Answer::Seen, self));
+        }
+        let feed = if live { Feed { internal, ..self } } else { self };
+        if kind != 53 {
+            return Ok((Answer::Passed, feed));
+        }
+        book::take(table, message)?;
+        Ok((Answer::Taken, feed))
+    }
+}
+
+/// The program of example 10: one connection's bytes in, all of its output back.
+pub fn program(input: &[u8]) -> String {
+    let mut table = vec![0; SLOT * 128];
+    let mut feed = connect(new(1_000).feed, false, 0).feed;
+    let (mut at, mut units) = (0, 0);
+    let last = loop {
+        let held = &input[at..input.len().min(at + BUFFER)];
+        let given = arrive(feed, &mut table, held, 0);
+        feed = given.feed;
+        if !given.answer.is_accepted() {
+            break given.answer;
+        }
+        at += given.used as usize;
+        units += 1;
+    };
+    format!("code side rank price quantity orders\n{}end {} units {}\n", rows(&table), last as u64, units)
+}
+
+/// A line for each row, in slot order, bids before offers.
+fn rows(table: &[u64]) -> String {
+    let mut lines = String::new();
+    for slot in table.chunks_exact(SLOT).filter(|slot| slot[0] != 0) {
+        let book = Book::read(slot).unwrap_or_default();
+        for (name, side) in [("B", book.bids), ("O", book.offers)] {
+            for (at, row) in side.rows().iter().enumerate() {
+                let line = format!("{} {} {} {} {} {}\n", slot[0], name, at + 1, row.price, row.quantity, row.orders);
+                lines.push_str(&line);
+            }
+        }
+    }
+    lines
+}
