@@ -15,13 +15,14 @@ use Rattle.wire.proofs.Bools.{cond-same, split}
 use Rattle.book.specs.Message.{entryOf, entryAt, entriesFrom, listedEntry, listedSide, listedRank}
 use Rattle.book.specs.Sides.{noRow, newRows, changeRows, deleteRows, fits, rowsAfter, onSide}
 use Rattle.book.specs.Walk.{Book, emptyBook, withBids, withOffers, onBook, walk}
-use Rattle.book.specs.Arrays.{live, asSide, Padded, fitsAt, bookIn, walkedOf}
+use Rattle.book.specs.Arrays.{live, asSide, Padded, fitsAt, bookIn}
+use Rattle.book.specs.Loading.{met, settled}
+use Rattle.book.specs.Words.{wordsOf}
 use Rattle.book.specs.declared.Way.{Way}
 use Rattle.book.specs.declared.Way.the-variants.{Bid, Offer}
 use Rattle.book.specs.declared.Row.{Row}
 use Rattle.book.specs.declared.Side.{Side}
 use Rattle.book.specs.declared.Entry.{Entry}
-use Rattle.book.specs.declared.Walked.{Walked}
 use Rattle.book.proofs.Pads.{live-n, live-of, padded-of, padded-is}
 use Rattle.book.proofs.Fits.{fits-is}
 
@@ -35,8 +36,8 @@ pub entry-made : (quantity raw orders side level action price : ℕ) → price �
 entry-made quantity raw orders side level action price e = rw e
 
 pub entry-read : (e : Entry) (at : ℕ) (s : List ℕ) (q r o d l a : ℕ) → q ≡ field at 8 s → r ≡ field (at + 8) 4 s → o ≡ field (at + 12) 4 s → d ≡ field (at + 16) 2 s
-    → l ≡ getD s (at + 18) 0 → a ≡ getD s (at + 19) 0 → e ≡ entryOf q r o d l a → e ≡ entryAt at s
-entry-read e at s q r o d l a eq er eo ed el ea h = rw (h, eq, er, eo, ed, el, ea, one-byte (at + 18) s, one-byte (at + 19) s)
+    → l ≡ field (at + 18) 1 s → a ≡ field (at + 19) 1 s → e ≡ entryOf q r o d l a → e ≡ entryAt at s
+entry-read e at s q r o d l a eq er eo ed el ea h = rw (h, eq, er, eo, ed, el, ea)
 
 -- whether an entry is listed
 pub listed-clear : (e : Entry) → e .action ≡ 74 → true ≡ listedEntry e
@@ -107,16 +108,17 @@ rest-all n s =
 pub record Listing (n : ℕ) (s : List ℕ) (i : ℕ) : Type 0 where
   pub upto : i ≤ n
   pub few : n ≤ 255
+  pub room : 24 * n ≤ length s
   pub same : all listedEntry (rest n i s) ≡ all listedEntry (entriesFrom n 0 s)
 
-pub list-starts : (n : ℕ) (s : List ℕ) → n ≤ 255 → Listing n s 0
-list-starts n s h = record { upto = omega arith; few = h; same = ap (all listedEntry) (rest-all n s) }
+pub list-starts : (n : ℕ) (s : List ℕ) → (n ≤ 255) × (24 * n ≤ length s) → Listing n s 0
+list-starts n s h = record { upto = omega arith; few = h .0; room = h .1; same = ap (all listedEntry) (rest-all n s) }
 
 pub list-goes : (n : ℕ) (s : List ℕ) (i : ℕ) (e : Entry) (b : Bool) → Listing n s i → i < n → e ≡ entryAt (24 * i) s → b ≡ listedEntry e → b ≡ true → Listing n s (i + 1)
 unfolding all
 list-goes n s i e b p h q t y =
     let yes : listedEntry (entryAt (24 * i) s) ≡ true = ap listedEntry (sym q) ∙ sym t ∙ y in
-    record { upto = omega arith; few = p .few; same = sym (ap (all listedEntry) (rest-more n i s h) ∙ rw yes) ∙ p .same }
+    record { upto = omega arith; few = p .few; room = p .room; same = sym (ap (all listedEntry) (rest-more n i s h) ∙ rw yes) ∙ p .same }
 
 pub list-stops : (n : ℕ) (s : List ℕ) (i : ℕ) (e : Entry) (b : Bool) → Listing n s i → i < n → e ≡ entryAt (24 * i) s → b ≡ listedEntry e → b ≡ false → false ≡ all listedEntry (entriesFrom n 0 s)
 unfolding all
@@ -175,44 +177,50 @@ module _ (time : ℕ) (e : Entry) (b : Book) where
   unfolding onBook onSide fits pick
   no-rank a r = rw (ne-eqb (e .action) 74 a, r) (ap (cond (eqb (e .side) 0) none) (cond-same (eqb (e .side) 1) none) ∙ cond-same (eqb (e .side) 0) none)
 
--- what is left of the walk from the i-th entry on comes to what all of it does
-pub record Walking (time : ℕ) (s : List ℕ) (n : ℕ) (b₀ o₀ b o : Side) (i : ℕ) : Type 0 where
+-- what is left of the walk from the i-th entry on comes to what all of it does, and the words stay until then
+pub record Walking (time : ℕ) (s : List ℕ) (n : ℕ) (w₀ : List ℕ) (b₀ o₀ : Side) (w : List ℕ) (b o : Side) (i : ℕ) : Type 0 where
   pub upto : i ≤ n
   pub few : n ≤ 255
+  pub room : 24 * n ≤ length s
+  pub long : length w ≡ 64
+  pub stays : w ≡ w₀
   pub bids : Padded b
   pub offers : Padded o
   pub same : walk time (rest n i s) (bookIn b o) ≡ walk time (entriesFrom n 0 s) (bookIn b₀ o₀)
 
-pub walk-starts : (time : ℕ) (s : List ℕ) (n : ℕ) (b o : Side) → Padded b × Padded o × (n ≤ 255) → Walking time s n b o b o 0
-walk-starts time s n b o p = record {
+pub walk-starts : (time : ℕ) (s : List ℕ) (n : ℕ) (w : List ℕ) (b o : Side) → (length w ≡ 64) × Padded b × Padded o × (n ≤ 255) × (24 * n ≤ length s) → Walking time s n w b o w b o 0
+walk-starts time s n w b o p = record {
   upto = omega arith;
-  few = p .2;
-  bids = p .0;
-  offers = p .1;
+  few = p .3;
+  room = p .4;
+  long = p .0;
+  stays = refl;
+  bids = p .1;
+  offers = p .2;
   same = ap (λ (es : List Entry). walk time es (bookIn b o)) (rest-all n s);
 }
 
-pub walk-ends : (time : ℕ) (s : List ℕ) (n : ℕ) (b₀ o₀ b o : Side) (i : ℕ) → Walking time s n b₀ o₀ b o i → n ≤ i
-    → _≡_ {A = Walked} (record { answer = 0; bids = b; offers = o }) (walkedOf (walk time (entriesFrom n 0 s) (bookIn b₀ o₀)))
+pub walk-ends : (time : ℕ) (s : List ℕ) (n c : ℕ) (w₀ : List ℕ) (b₀ o₀ : Side) (w u : List ℕ) (b o : Side) (i : ℕ) → Walking time s n w₀ b₀ o₀ w b o i → n ≤ i → u ≡ wordsOf c (bookIn b o)
+    → met 0 u ≡ settled c (walk time (entriesFrom n 0 s) (bookIn b₀ o₀)) w₀
 unfolding walk
-walk-ends time s n b₀ o₀ b o i p h =
-    let e : walk time (entriesFrom n 0 s) (bookIn b₀ o₀) ≡ some (bookIn b o) = sym (p .same) ∙ ap (λ (es : List Entry). walk time es (bookIn b o)) (rest-none n i s h) in
-    sym (ap walkedOf e ∙ (λ k. record { answer = 0; bids = padded-is b (p .bids) k; offers = padded-is o (p .offers) k }))
+walk-ends time s n c w₀ b₀ o₀ w u b o i p h e =
+    let f : walk time (entriesFrom n 0 s) (bookIn b₀ o₀) ≡ some (bookIn b o) = sym (p .same) ∙ ap (λ (es : List Entry). walk time es (bookIn b o)) (rest-none n i s h) in
+    rw (f, e)
 
-module _ (time : ℕ) (s : List ℕ) (n : ℕ) (b₀ o₀ b o : Side) (i : ℕ) (p : Walking time s n b₀ o₀ b o i) (h : i < n) (e : Entry) (q : e ≡ entryAt (24 * i) s) where
+module _ (time : ℕ) (s : List ℕ) (n : ℕ) (w₀ : List ℕ) (b₀ o₀ : Side) (w : List ℕ) (b o : Side) (i : ℕ) (p : Walking time s n w₀ b₀ o₀ w b o i) (h : i < n) (e : Entry) (q : e ≡ entryAt (24 * i) s) where
   one-more : bind (onBook time e (bookIn b o)) (walk time (rest n (i + 1) s)) ≡ walk time (entriesFrom n 0 s) (bookIn b₀ o₀)
   unfolding walk
   one-more = rw q (sym (ap (λ (es : List Entry). walk time es (bookIn b o)) (rest-more n i s h)) ∙ p .same)
 
-  goes : (b′ o′ : Side) → Padded b′ → Padded o′ → onBook time e (bookIn b o) ≡ some (bookIn b′ o′) → Walking time s n b₀ o₀ b′ o′ (i + 1)
+  goes : (b′ o′ : Side) → Padded b′ → Padded o′ → onBook time e (bookIn b o) ≡ some (bookIn b′ o′) → Walking time s n w₀ b₀ o₀ w b′ o′ (i + 1)
   unfolding bind
-  goes b′ o′ pb po f = record { upto = omega arith; few = p .few; bids = pb; offers = po; same = rw f at one-more }
+  goes b′ o′ pb po f = record { upto = omega arith; few = p .few; room = p .room; long = p .long; stays = p .stays; bids = pb; offers = po; same = rw f at one-more }
 
-  stops : (r : Walked) → r ≡ walkedOf none → onBook time e (bookIn b o) ≡ none → r ≡ walkedOf (walk time (entriesFrom n 0 s) (bookIn b₀ o₀))
+  stops : (c : ℕ) → onBook time e (bookIn b o) ≡ none → met 16 w ≡ settled c (walk time (entriesFrom n 0 s) (bookIn b₀ o₀)) w₀
   unfolding bind
-  stops r m f = m ∙ ap walkedOf (rw f at one-more)
+  stops c f = ap (met 16) (p .stays) ∙ ap (λ (r : Option Book). settled c r w₀) (rw f at one-more)
 
-  pub walk-clear : (b′ o′ : Side) → e .action ≡ 74 → b′ ≡ asSide [] → o′ ≡ asSide [] → Walking time s n b₀ o₀ b′ o′ (i + 1)
+  pub walk-clear : (b′ o′ : Side) → e .action ≡ 74 → b′ ≡ asSide [] → o′ ≡ asSide [] → Walking time s n w₀ b₀ o₀ w b′ o′ (i + 1)
   walk-clear b′ o′ a eb eo =
       rw (eb, eo) (goes (asSide []) (asSide []) (padded-of [] (omega arith)) (padded-of [] (omega arith)) (on-clear time e (bookIn b o) a))
 
@@ -222,34 +230,34 @@ module _ (time : ℕ) (s : List ℕ) (n : ℕ) (b₀ o₀ b o : Side) (i : ℕ) 
   few-offers : length (live o) ≤ 10
   few-offers = omega (arith, live-n o (p .offers), p .offers .few)
 
-  pub walk-bid : (b′ : Side) → (e .action ≡ 74 → ⊥) → e .side ≡ 0 → fits Bid e (live b) ≡ true → b′ ≡ asSide (rowsAfter e (live b)) → Walking time s n b₀ o₀ b′ o (i + 1)
+  pub walk-bid : (b′ : Side) → (e .action ≡ 74 → ⊥) → e .side ≡ 0 → fits Bid e (live b) ≡ true → b′ ≡ asSide (rowsAfter e (live b)) → Walking time s n w₀ b₀ o₀ w b′ o (i + 1)
   walk-bid b′ a d f eb =
       let few = after-few e (live b) few-bids in
       rw eb (goes (asSide (rowsAfter e (live b))) o (padded-of (rowsAfter e (live b)) few) (p .offers)
       (on-bid time e (bookIn b o) a d f ∙ ap (λ (l : List Row). some (record { bids = l; offers = live o })) (sym (live-of (rowsAfter e (live b)) few))))
 
-  pub walk-offer : (o′ : Side) → (e .action ≡ 74 → ⊥) → (e .side ≡ 0 → ⊥) → e .side ≡ 1 → fits Offer e (live o) ≡ true → o′ ≡ asSide (rowsAfter e (live o)) → Walking time s n b₀ o₀ b o′ (i + 1)
+  pub walk-offer : (o′ : Side) → (e .action ≡ 74 → ⊥) → (e .side ≡ 0 → ⊥) → e .side ≡ 1 → fits Offer e (live o) ≡ true → o′ ≡ asSide (rowsAfter e (live o)) → Walking time s n w₀ b₀ o₀ w b o′ (i + 1)
   walk-offer o′ a z d f eo =
       let few = after-few e (live o) few-offers in
       rw eo (goes b (asSide (rowsAfter e (live o))) (p .bids) (padded-of (rowsAfter e (live o)) few)
       (on-offer time e (bookIn b o) a z d f ∙ ap (λ (l : List Row). some (record { bids = live b; offers = l })) (sym (live-of (rowsAfter e (live o)) few))))
 
-  pub stop-zero : (r : Walked) → r ≡ walkedOf none → (e .action ≡ 74 → ⊥) → e .level < 1 → r ≡ walkedOf (walk time (entriesFrom n 0 s) (bookIn b₀ o₀))
+  pub stop-zero : (c : ℕ) → (e .action ≡ 74 → ⊥) → e .level < 1 → met 16 w ≡ settled c (walk time (entriesFrom n 0 s) (bookIn b₀ o₀)) w₀
   unfolding listedRank
-  stop-zero r m a l = stops r m (no-rank time e (bookIn b o) a (rw (lt-leb 1 (e .level) l)))
+  stop-zero c a l = stops c (no-rank time e (bookIn b o) a (rw (lt-leb 1 (e .level) l)))
 
-  pub stop-eleven : (r : Walked) → r ≡ walkedOf none → (e .action ≡ 74 → ⊥) → 1 ≤ e .level → 10 < e .level → r ≡ walkedOf (walk time (entriesFrom n 0 s) (bookIn b₀ o₀))
+  pub stop-eleven : (c : ℕ) → (e .action ≡ 74 → ⊥) → 1 ≤ e .level → 10 < e .level → met 16 w ≡ settled c (walk time (entriesFrom n 0 s) (bookIn b₀ o₀)) w₀
   unfolding listedRank
-  stop-eleven r m a l u = stops r m (no-rank time e (bookIn b o) a (rw (le-leb 1 (e .level) l, lt-leb (e .level) 10 u)))
+  stop-eleven c a l u = stops c (no-rank time e (bookIn b o) a (rw (le-leb 1 (e .level) l, lt-leb (e .level) 10 u)))
 
-  pub stop-bid : (r : Walked) → r ≡ walkedOf none → (e .action ≡ 74 → ⊥) → e .side ≡ 0 → fits Bid e (live b) ≡ false → r ≡ walkedOf (walk time (entriesFrom n 0 s) (bookIn b₀ o₀))
-  stop-bid r m a d f = stops r m (not-bid time e (bookIn b o) a d f)
+  pub stop-bid : (c : ℕ) → (e .action ≡ 74 → ⊥) → e .side ≡ 0 → fits Bid e (live b) ≡ false → met 16 w ≡ settled c (walk time (entriesFrom n 0 s) (bookIn b₀ o₀)) w₀
+  stop-bid c a d f = stops c (not-bid time e (bookIn b o) a d f)
 
-  pub stop-offer : (r : Walked) → r ≡ walkedOf none → (e .action ≡ 74 → ⊥) → (e .side ≡ 0 → ⊥) → e .side ≡ 1 → fits Offer e (live o) ≡ false → r ≡ walkedOf (walk time (entriesFrom n 0 s) (bookIn b₀ o₀))
-  stop-offer r m a z d f = stops r m (not-offer time e (bookIn b o) a z d f)
+  pub stop-offer : (c : ℕ) → (e .action ≡ 74 → ⊥) → (e .side ≡ 0 → ⊥) → e .side ≡ 1 → fits Offer e (live o) ≡ false → met 16 w ≡ settled c (walk time (entriesFrom n 0 s) (bookIn b₀ o₀)) w₀
+  stop-offer c a z d f = stops c (not-offer time e (bookIn b o) a z d f)
 
-  pub stop-side : (r : Walked) → r ≡ walkedOf none → (e .action ≡ 74 → ⊥) → (e .side ≡ 0 → ⊥) → (e .side ≡ 1 → ⊥) → r ≡ walkedOf (walk time (entriesFrom n 0 s) (bookIn b₀ o₀))
-  stop-side r m a z d = stops r m (no-side time e (bookIn b o) a z d)
+  pub stop-side : (c : ℕ) → (e .action ≡ 74 → ⊥) → (e .side ≡ 0 → ⊥) → (e .side ≡ 1 → ⊥) → met 16 w ≡ settled c (walk time (entriesFrom n 0 s) (bookIn b₀ o₀)) w₀
+  stop-side c a z d = stops c (no-side time e (bookIn b o) a z d)
 
 -- the test on numbers told whether the entry fits the side
 pub fits-told : (w : Way) (s : Side) (e : Entry) (t f : Bool) (up : ℕ) → Padded s → 1 ≤ e .level → e .level ≤ 10 → up ≡ e .level - 2
@@ -257,10 +265,7 @@ pub fits-told : (w : Way) (s : Side) (e : Entry) (t f : Bool) (up : ℕ) → Pad
     → fits w e (live s) ≡ t
 fits-told w s e t f up p a b u q r = fits-is w s e p a b ∙ rw (← u) (sym q ∙ r)
 
-pub no-walk : (b o : Side) → b ≡ asSide [] → o ≡ asSide [] → _≡_ {A = Walked} (record { answer = 16; bids = b; offers = o }) (walkedOf none)
-no-walk b o p q = rw (p, q)
-
-pub ruleset walking = (needs, no-walk, walk-starts, walk-ends, walk-clear, walk-bid, walk-offer, stop-zero, stop-eleven, stop-bid, stop-offer, stop-side, fits-told)
+pub ruleset walking = (needs, walk-starts, walk-ends, walk-clear, walk-bid, walk-offer, stop-zero, stop-eleven, stop-bid, stop-offer, stop-side, fits-told)
 
 -- at most ten rows a side, of a book and of what may be a book
 abbrev pub Few : Book → Type 0

@@ -3,7 +3,6 @@ use Prim.Native.Nat.{ℕ, _+_, _≤_}
 use mathlib.Core.Path.{_≡_}
 use mathlib.Core.Bool.{Bool, false, _&&_, _||_}
 use mathlib.Core.List.{List, [], _∷_}
-use mathlib.Core.Option.{Option, none, some}
 use lib.ListN.{length, take}
 use lib.Dec.{ltb, leb, eqb}
 use Rattle.wire.specs.Choice.{pick}
@@ -14,7 +13,6 @@ use Rattle.book.specs.Words.{pad}
 use Rattle.book.specs.declared.Way.{Way}
 use Rattle.book.specs.declared.Row.{Row}
 use Rattle.book.specs.declared.Side.{Side}
-use Rattle.book.specs.declared.Walked.{Walked}
 
 -- the rows of a side, and the side of some rows
 abbrev pub live : Side → List Row
@@ -38,10 +36,6 @@ fitsAt w action n p above old price =
     ∷ [])
     false
 
--- a book as two sides, and what the walk hands back: of a misfit 16 and no rows
+-- a book as two sides
 abbrev pub bookIn : Side → Side → Book
 bookIn bids offers = record { bids = live bids; offers = live offers }
-
-abbrev pub walkedOf : Option Book → Walked
-walkedOf none = record { answer = 16; bids = asSide []; offers = asSide [] }
-walkedOf (some b) = record { answer = 0; bids = asSide (b .bids); offers = asSide (b .offers) }

@@ -1,15 +1,16 @@
--- A side read from a book's words by value, the test of one of its rows, and a sound book by value (document 01, "The book table"). Assumes nothing.
+-- A side read from a book's words by value, the test of one of its rows, a sound book by value, and a book's words after a walk (document 01, "The book table"). Assumes nothing.
 use Prim.Native.Nat.{ℕ, _≤_}
 use mathlib.Core.Path.{_≡_}
 use mathlib.Core.Bool.{Bool, true, cond, _&&_, _||_}
 use mathlib.Core.List.{List}
+use mathlib.Core.Option.{Option, none, some}
 use lib.ListN.{length}
 use lib.Dec.{leb, eqb}
 use Rattle.wire.specs.Choice.{all}
 use Rattle.book.specs.Message.{depth}
 use Rattle.book.specs.Sides.{better}
 use Rattle.book.specs.Walk.{Book}
-use Rattle.book.specs.Words.{rowsFrom, bestFirst, bounded, zeroRow}
+use Rattle.book.specs.Words.{rowsFrom, wordsOf, bestFirst, bounded, zeroRow}
 use Rattle.book.specs.declared.Way.{Way}
 use Rattle.book.specs.declared.Way.the-variants.{Bid, Offer}
 use Rattle.book.specs.declared.Row.{Row}
@@ -33,3 +34,16 @@ pub record SoundRows (w : Way) (s : List Row) : Type 0 where
 pub record SoundBook (b : Book) : Type 0 where
   pub bids : SoundRows Bid (b .bids)
   pub offers : SoundRows Offer (b .offers)
+
+-- an answer, and the words afterwards
+pub record Met : Type 0 where
+  pub answer : ℕ
+  pub words : List ℕ
+
+abbrev pub met : ℕ → List ℕ → Met
+met answer words = record { answer = answer; words = words }
+
+-- a book's words after a walk: 16 and as they were, or 0 and all of them written
+abbrev pub settled : ℕ → Option Book → List ℕ → Met
+settled c none w = met 16 w
+settled c (some b) w = met 0 (wordsOf c b)

@@ -1,20 +1,19 @@
 // One book: rows, two sides, the entries of a book message (document 01, "One unit", "The book table", "Entries, against a side of n rows").
 ghost use mathlib.Core.Path.{_≡_};
 ghost use mathlib.Core.List.{[]};
-ghost use Prim.Native.Nat.{_+_, _-_, _≤_, _<_, min};
+ghost use Prim.Native.Nat.{_+_, _-_, _*_, _≤_, _<_, min};
 ghost use lib.ListN.{length, set, drop};
 ghost use mathlib.Core.Bool.{true, _||_};
 ghost use lib.Dec.{leb, ltb};
 ghost use Rattle.book.specs.Message.{depth, new, entrySize, entryOf, entryAt, entriesFrom, listedEntry};
 ghost use Rattle.wire.specs.Number.{word32};
 ghost use Rattle.wire.specs.Choice.{all};
-ghost use mathlib.Core.Option.{none};
 ghost use Rattle.book.specs.Walk.{walk as walkBook};
 ghost use Rattle.book.specs.Sides.{better, noRow, newRows, deleteRows, fits, rowsAfter};
-ghost use Rattle.book.specs.Arrays.{live, asSide, Padded, fitsAt, bookIn, walkedOf};
+ghost use Rattle.book.specs.Arrays.{live, asSide, Padded, fitsAt, bookIn};
 ghost use Rattle.slots.specs.Slots.{overlay};
 ghost use Rattle.book.specs.Words.{bookWidth, rowWidth, rowOf, rowWords, rowsFrom, sideWords, wordsOf, bounded, zeroRow, soundSide, sound};
-ghost use Rattle.book.specs.Loading.{sideFrom, soundRow};
+ghost use Rattle.book.specs.Loading.{sideFrom, soundRow, met, settled};
 
 // The two sides.
 pub enum Way {
@@ -31,8 +30,8 @@ pub struct Row {
 
 // A side of n rows, best first; the rows behind them are zero.
 pub struct Side {
-    pub n: usize,
     pub rows: [Row; 10],
+    pub n: usize,
 }
 
 // An entry of a book message, its numbers as sent but for the price, which is the row's price word.
@@ -41,13 +40,6 @@ pub struct Entry {
     pub side: u64,
     pub level: usize,
     pub action: u64,
-}
-
-// What the walk hands back: 0 and the sides after the last entry, or 16.
-pub struct Walked {
-    pub answer: u64,
-    pub bids: Side,
-    pub offers: Side,
 }
 
 // The row that stands beyond the count.
@@ -227,7 +219,7 @@ fn entry_of(quantity: u64, raw: u64, orders: u64, side: u64, level: u64, action:
 }
 
 // The entry in the 24 bytes from `at` on, all of them there.
-fn whole_entry(part: &[u8], at: usize) -> Entry
+fn entry_at(part: &[u8], at: usize) -> Entry
     requires { ⌜ at + entrySize ≤ length (now part) ⌝ }
     ensures { λ r. ⌜ r ≡ entryAt at (now (part .entry)) ⌝ }
 {
@@ -235,34 +227,9 @@ fn whole_entry(part: &[u8], at: usize) -> Entry
     let raw = wire::u32_in(part, at + 8);
     let orders = wire::u32_in(part, at + 12);
     let side = wire::u16_in(part, at + 16);
-    let level = wire::byte_at(part, at + 18);
-    let action = wire::byte_at(part, at + 19);
+    let level = wire::u8_in(part, at + 18);
+    let action = wire::u8_in(part, at + 19);
     entry_of(quantity, raw, orders, side, level, action)
-}
-
-// The entry from `at` on, where a byte beyond the end counts as 0.
-fn torn_entry(part: &[u8], at: usize) -> Entry
-    requires { ⌜ at ≤ 6096 ⌝ }
-    ensures { λ r. ⌜ r ≡ entryAt at (now (part .entry)) ⌝ }
-{
-    let quantity = wire::u64_at(part, at);
-    let raw = wire::u32_at(part, at + 8);
-    let orders = wire::u32_at(part, at + 12);
-    let side = wire::u16_at(part, at + 16);
-    let level = wire::byte_at(part, at + 18);
-    let action = wire::byte_at(part, at + 19);
-    entry_of(quantity, raw, orders, side, level, action)
-}
-
-// The entry from `at` on.
-fn entry_at(part: &[u8], at: usize) -> Entry
-    requires { ⌜ at ≤ 6096 ⌝ }
-    ensures { λ r. ⌜ r ≡ entryAt at (now (part .entry)) ⌝ }
-{
-    if at + 24 <= part.len() {
-        return whole_entry(part, at);
-    }
-    torn_entry(part, at)
 }
 
 // Whether an entry's side, level and action are listed; of a clear, only its action is looked at.
@@ -286,7 +253,7 @@ fn is_listed(e: Entry) -> bool
 
 // Whether all of n entries are listed.
 pub fn all_listed(part: &[u8], n: usize) -> bool
-    requires { ⌜ n ≤ 255 ⌝ }
+    requires { ⌜ (n ≤ 255) × (entrySize * n ≤ length (now part)) ⌝ }
     ensures { λ r. ⌜ r ≡ all listedEntry (entriesFrom n 0 (now (part .entry))) ⌝ }
 {
     let mut i = 0;
@@ -301,17 +268,6 @@ pub fn all_listed(part: &[u8], n: usize) -> bool
     true
 }
 
-// A walk that ended at an entry that does not fit.
-fn misfit() -> Walked
-    ensures { λ r. ⌜ r ≡ walkedOf none ⌝ }
-{
-    Walked {
-        answer: 16,
-        bids: empty_side(),
-        offers: empty_side(),
-    }
-}
-
 // The row above a rank.
 fn place_above(level: usize) -> usize
     ensures { λ r. ⌜ r ≡ level - 2 ⌝ }
@@ -319,19 +275,25 @@ fn place_above(level: usize) -> usize
     if level < 2 { 0 } else { level - 2 }
 }
 
-// The walk over n entries: each meets the sides as the entries before it left them, and the first that does not fit ends it.
-pub fn walk(mut bids: Side, mut offers: Side, part: &[u8], n: usize, time: u64) -> Walked
-    requires { ⌜ Padded bids × Padded offers × (n ≤ 255) ⌝ }
-    ensures { λ r. ⌜ r ≡ walkedOf (walkBook time (entriesFrom n 0 (now (part .entry))) (bookIn bids offers)) ⌝ }
+// The walk over n entries: each meets the sides as the entries before it left them, and the first that does not fit ends it with 16. After the last,
+// the book is written over its words.
+pub fn walk(
+    words: &mut [u64],
+    code: u64,
+    mut bids: Side,
+    mut offers: Side,
+    part: &[u8],
+    n: usize,
+    time: u64,
+) -> u64
+    requires { ⌜ (length (now words) ≡ bookWidth) × Padded bids × Padded offers × (n ≤ 255) × (entrySize * n ≤ length (now part)) ⌝ }
+    ensures { λ r. ⌜ met r (now (words .exit)) ≡ settled code (walkBook time (entriesFrom n 0 (now (part .entry))) (bookIn bids offers)) (now (words .entry)) ⌝ }
 {
     let mut i = 0;
     'walk: loop {
         if n <= i {
-            break 'walk Walked {
-                answer: 0,
-                bids,
-                offers,
-            };
+            write_book(words, code, bids, offers);
+            break 'walk 0;
         }
         let e = entry_at(part, 24 * i);
         let row = e.row;
@@ -343,10 +305,10 @@ pub fn walk(mut bids: Side, mut offers: Side, part: &[u8], n: usize, time: u64) 
             continue 'walk;
         }
         if level < 1 {
-            break 'walk misfit();
+            break 'walk 16;
         }
         if 10 < level {
-            break 'walk misfit();
+            break 'walk 16;
         }
         let up = place_above(level);
         let place = level - 1;
@@ -365,7 +327,7 @@ pub fn walk(mut bids: Side, mut offers: Side, part: &[u8], n: usize, time: u64) 
                 bids = side_after(bids, Way::Bid, e);
                 continue 'walk;
             }
-            break 'walk misfit();
+            break 'walk 16;
         }
         if e.side == 1 {
             let above = offers.rows[up];
@@ -382,9 +344,9 @@ pub fn walk(mut bids: Side, mut offers: Side, part: &[u8], n: usize, time: u64) 
                 offers = side_after(offers, Way::Offer, e);
                 continue 'walk;
             }
-            break 'walk misfit();
+            break 'walk 16;
         }
-        break 'walk misfit();
+        break 'walk 16;
     }
 }
 

@@ -60,6 +60,14 @@ fn number_at(s: &[u8], at: usize, n: usize) -> u64
     number_in(s, at, n)
 }
 
+// The number in the byte at a place, which is there.
+pub fn u8_in(s: &[u8], at: usize) -> u64
+    requires { ⌜ at + 1 ≤ length (now s) ⌝ }
+    ensures { λ r. ⌜ (r ≡ field at 1 (now (s .entry))) × (r < 256) ⌝ }
+{
+    number_in(s, at, 1)
+}
+
 // The number in the 2 bytes from `at` on, both of them there.
 pub fn u16_in(s: &[u8], at: usize) -> u64
     requires { ⌜ at + 2 ≤ length (now s) ⌝ }

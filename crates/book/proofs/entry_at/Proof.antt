@@ -1,9 +1,9 @@
 use Rattle.book.proofs.Walks.{listing}
-use Rattle.book.proofs.whole_entry.Statement.{statement}
-use Rattle.book.proofs.whole_entry.Tie as tie
+use Rattle.book.proofs.entry_at.Statement.{statement}
+use Rattle.book.proofs.entry_at.Tie as tie
 
-pub whole-entry-spec : {M : Type 1} → statement M
-whole-entry-spec =
+pub entry-at-spec : {M : Type 1} → statement M
+entry-at-spec =
     tie.close
     (tie.spec
     (λ c κs. search listing)
