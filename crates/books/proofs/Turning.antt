@@ -22,20 +22,14 @@ use Rattle.slots.proofs.Frame.{taken-fits}
 use Rattle.book.specs.Message.{securityCode, noEntries, entriesFrom, entries, listedCode, listedEntry, listedBook}
 use Rattle.book.specs.Walk.{Book, emptyBook, walk}
 use Rattle.book.specs.Words.{bookOf, wordsOf, sound}
-use Rattle.book.specs.Arrays.{asSide, Padded, bookIn, walkedOf}
-use Rattle.book.specs.Loading.{sideFrom}
+use Rattle.book.specs.Arrays.{asSide, Padded, bookIn}
+use Rattle.book.specs.Loading.{Met, met, settled, sideFrom}
 use Rattle.book.specs.declared.Entry.{Entry}
 use Rattle.book.specs.declared.Side.{Side}
-use Rattle.book.specs.declared.Walked.{Walked}
-use Rattle.book.proofs.Pads.{padded-of, live-n}
-use Rattle.book.proofs.Walks.{one-byte, Few, walk-few}
+use Rattle.book.proofs.Pads.{padded-of}
 use Rattle.book.proofs.Tells.{loaded-bids, loaded-offers, loaded-book}
-use Rattle.book.proofs.Rounds.{book-in}
 use Rattle.books.specs.Table.{placeIn, block, unsoundAt, noneFree, bookAt, misfit, hasEntries, unsound, noSlot, misfits, bookAnswer, written, booksAfter}
-use Rattle.books.specs.Turns.{Met, met, settled, slotMet, within, placeMet, bookTurn}
-
-pub short-part : (m : List ℕ) → length m < 12 → [] ≡ drop 12 m
-short-part m h = sym (drop-of-length-le m {i = 12} (omega arith))
+use Rattle.books.specs.Turns.{ready, startSide, slotMet, within, placeMet, bookTurn}
 
 pub long-part : (m : List ℕ) → 12 ≤ length m → take (length m - 12) (drop 12 m) ≡ drop 12 m
 long-part m h = take-all (length m - 12) (drop 12 m) (rw length-drop (omega arith))
@@ -48,63 +42,43 @@ pub code-rest : (c : ℕ) → 1 ≤ c → leb c 99999 ≡ listedCode c
 unfolding listedCode
 code-rest c h = rw (le-leb 1 c h)
 
--- the sides that a walk hands back, and what is then written
-module _ (time : ℕ) (es : List Entry) (b o : Side) (w : Walked) (e : w ≡ walkedOf (walk time es (bookIn b o))) (p : Padded b) (q : Padded o) where
-  few : Few (bookIn b o)
-  few = (omega (arith, live-n b p, p .few), omega (arith, live-n o q, q .few))
-
-  sides : (r : Option Book) → walk time es (bookIn b o) ≡ r → Padded (walkedOf r .bids) × Padded (walkedOf r .offers)
-  sides none f = (padded-of [] (omega arith), padded-of [] (omega arith))
-  sides (some x) f =
-      let k = walk-few time es (bookIn b o) x f few in
-      (padded-of (x .bids) (k .0), padded-of (x .offers) (k .1))
-
-  pub walked-bids : Padded (w .bids)
-  walked-bids = rw e (sides (walk time es (bookIn b o)) refl .0)
-
-  pub walked-offers : Padded (w .offers)
-  walked-offers = rw e (sides (walk time es (bookIn b o)) refl .1)
-
-  pub walk-written : (c : ℕ) (u t : List ℕ) → w .answer ≡ 0 → u ≡ wordsOf c (bookIn (w .bids) (w .offers)) → met 0 u ≡ settled c (walk time es (bookIn b o)) t
-  walk-written c u t a h = go (walk time es (bookIn b o)) refl (rw e at a) (rw e at h)
-    where
-      go : (r : Option Book) → walk time es (bookIn b o) ≡ r → walkedOf r .answer ≡ 0 → u ≡ wordsOf c (bookIn (walkedOf r .bids) (walkedOf r .offers)) → met 0 u ≡ settled c r t
-      go none f a h = absurd (omega (arith, a))
-      go (some x) f a h =
-          let k = walk-few time es (bookIn b o) x f few in
-          ap (met 0) (h ∙ ap (wordsOf c) (book-in x (k .0) (k .1)))
-
-  pub walk-stopped : (c : ℕ) (t : List ℕ) → (w .answer ≡ 0 → ⊥) → met 16 t ≡ settled c (walk time es (bookIn b o)) t
-  walk-stopped c t a = go (walk time es (bookIn b o)) (rw e at a)
-    where
-      go : (r : Option Book) → (walkedOf r .answer ≡ 0 → ⊥) → met 16 t ≡ settled c r t
-      go none a = refl
-      go (some x) a = absurd (a refl)
+-- how much the entries of a message of the right size take
+pub part-room : (m : List ℕ) (k : ℕ) → length m ≡ 12 + 24 * noEntries m → k ≡ field 11 1 m → 24 * k ≤ length (drop 12 m)
+part-room m k h e = rw length-drop (omega (arith, h, e))
 
 -- a code's own slot
-pub own-bids : (t : Bool) (w : List ℕ) (s : Side) → t ≡ sound w → t ≡ true → s ≡ sideFrom 4 (getD w 1 0) w → Padded s
-own-bids t w s e y q = loaded-bids w (sym e ∙ y) s q
+pub own-ready : (own b : Bool) (w : List ℕ) → own ≡ true → b ≡ sound w → b ≡ ready own w
+own-ready own b w y e = rw y e
 
-pub own-offers : (t : Bool) (w : List ℕ) (s : Side) → t ≡ sound w → t ≡ true → s ≡ sideFrom 34 (getD w 2 0) w → Padded s
-own-offers t w s e y q = loaded-offers w (sym e ∙ y) s q
+pub own-side : (own : Bool) (base n : ℕ) (w : List ℕ) (s : Side) → own ≡ true → s ≡ sideFrom base n w → s ≡ startSide own base n w
+own-side own base n w s y e = rw y e
 
-pub own-met : (t : Bool) (w u : List ℕ) (b o : Side) (c time r : ℕ) (es : List Entry) → t ≡ sound w → t ≡ true → b ≡ sideFrom 4 (getD w 1 0) w → o ≡ sideFrom 34 (getD w 2 0) w
-    → met r u ≡ settled c (walk time es (bookIn b o)) w → met r u ≡ slotMet true c time es w
-unfolding slotMet
-own-met t w u b o c time r es e y eb eo h = h ∙ rw (sym e ∙ y, loaded-book w b o eb eo)
+-- a slot that is ready, and one that is not
+module _ (own t : Bool) (w : List ℕ) (e : t ≡ ready own w) where
+  sides : (o : Bool) → own ≡ o → t ≡ true → (s : Side) → (s ≡ startSide own 4 (getD w 1 0) w → Padded s) × (s ≡ startSide own 34 (getD w 2 0) w → Padded s)
+  sides true q y s =
+      let h : sound w ≡ true = ap (λ (o : Bool). ready o w) (sym q) ∙ sym e ∙ y in
+      ((λ f. loaded-bids w h s (rw q at f)), (λ f. loaded-offers w h s (rw q at f)))
+  sides false q y s = ((λ f. rw (rw q at f) (padded-of [] (omega arith))), (λ f. rw (rw q at f) (padded-of [] (omega arith))))
 
-pub own-unsound : (t : Bool) (w : List ℕ) (c time : ℕ) (es : List Entry) → t ≡ sound w → t ≡ false → met 18 w ≡ slotMet true c time es w
-unfolding slotMet
-own-unsound t w c time es e n = rw (sym e ∙ n)
+  pub start-bids : (s : Side) → t ≡ true → s ≡ startSide own 4 (getD w 1 0) w → Padded s
+  start-bids s y = sides own refl y s .0
 
--- a free slot
-pub free-padded : (s : Side) → s ≡ asSide [] → Padded s
-free-padded s e = rw e (padded-of [] (omega arith))
+  pub start-offers : (s : Side) → t ≡ true → s ≡ startSide own 34 (getD w 2 0) w → Padded s
+  start-offers s y = sides own refl y s .1
 
-pub free-met : (w u : List ℕ) (b o : Side) (c time r : ℕ) (es : List Entry) → b ≡ asSide [] → o ≡ asSide []
-    → met r u ≡ settled c (walk time es (bookIn b o)) w → met r u ≡ slotMet false c time es w
-unfolding slotMet
-free-met w u b o c time r es eb eo h = h ∙ rw (eb, eo)
+  book-is : (o : Bool) → own ≡ o → (a b : Side) → a ≡ startSide own 4 (getD w 1 0) w → b ≡ startSide own 34 (getD w 2 0) w → bookIn a b ≡ cond own (bookOf w) emptyBook
+  book-is true q a b ea eb = loaded-book w a b (rw q at ea) (rw q at eb) ∙ rw q
+  book-is false q a b ea eb = rw (rw q at ea, rw q at eb, q)
+
+  pub ready-met : (u : List ℕ) (a b : Side) (c time r : ℕ) (es : List Entry) → t ≡ true → a ≡ startSide own 4 (getD w 1 0) w → b ≡ startSide own 34 (getD w 2 0) w
+      → met r u ≡ settled c (walk time es (bookIn a b)) w → met r u ≡ slotMet own c time es w
+  unfolding slotMet
+  ready-met u a b c time r es y ea eb h = h ∙ rw (book-is own refl a b ea eb, sym e ∙ y)
+
+  pub unready-met : (c time : ℕ) (es : List Entry) → t ≡ false → met 18 w ≡ slotMet own c time es w
+  unfolding slotMet
+  unready-met c time es n = rw (sym e ∙ n)
 
 -- a slot's part of the table, lent on
 pub part-is : (k : ℕ) (t : List ℕ) → k < slotCount 64 (length t) → take (64 * k + 64 - 64 * k) (drop (64 * k) t) ≡ block k t
@@ -112,12 +86,12 @@ part-is k t h =
     let e : 64 * k + 64 - 64 * k ≡ 64 = omega arith in
     rw e (sym (block-at 64 (slotCount 64 (length t)) k t h))
 
-pub slot-met : (own b : Bool) (k : ℕ) (t u : List ℕ) (c time r : ℕ) (es : List Entry) → own ≡ b → k < slotCount 64 (length t)
-    → met r u ≡ slotMet b c time es (take (64 * k + 64 - 64 * k) (drop (64 * k) t))
+pub slot-met : (own : Bool) (k : ℕ) (t u : List ℕ) (c time r : ℕ) (es : List Entry) → k < slotCount 64 (length t)
+    → met r u ≡ slotMet own c time es (take (64 * k + 64 - 64 * k) (drop (64 * k) t))
     → met r (putMid (64 * k) (64 * k + 64 - 64 * k) t u) ≡ within k t (slotMet own c time es (block k t))
-slot-met own b k t u c time r es q h e =
+slot-met own k t u c time r es h e =
     let s : 64 * k + 64 - 64 * k ≡ 64 = omega arith in
-    rw (s, q) (ap (within k t) (e ∙ ap (slotMet b c time es) (part-is k t h)))
+    rw s (ap (within k t) (e ∙ ap (slotMet own c time es) (part-is k t h)))
 
 -- the slot that was found
 pub held-fits : (c k : ℕ) (t : List ℕ) (f : Slot) → f ≡ place c (slotsOf 64 t) → f ≡ Held k → k < slotCount 64 (length t)
@@ -159,7 +133,7 @@ module _ (time : ℕ) (m t : List ℕ) (l : listedBook m ≡ true) (n : hasEntri
   unsound-is k h e y = rw (l, n, e, y) (ap (met 18) (put-same k t h))
 
   held-is : (k : ℕ) → k < slotCount 64 (length t) → placeIn (securityCode m) t ≡ Held k → (y : Bool) → sound (block k t) ≡ y
-      → within k t (cond (true && not y) (met 18 (block k t)) (settled (securityCode m) (walk time (entries m) (bookOf (block k t))) (block k t))) ≡ bookTurn time m t
+      → within k t (cond y (settled (securityCode m) (walk time (entries m) (bookOf (block k t))) (block k t)) (met 18 (block k t))) ≡ bookTurn time m t
   unfolding bookAt unsoundAt noneFree written
   held-is k h e true y = settled-is k h (Held k) (bookOf (block k t)) (walk time (entries m) (bookOf (block k t))) e refl refl (rw y) refl (λ x. refl)
   held-is k h e false y = unsound-is k h e y
@@ -178,58 +152,53 @@ module _ (time : ℕ) (m t : List ℕ) (l : listedBook m ≡ true) (n : hasEntri
   placed-at (Free k) e = free-is k (taken-fits 64 (securityCode m) k t (inr e)) e
   placed-at Full e = full-is e
 
--- a book message is listed where its code is and all its entries are
-both-listed : (m part : List ℕ) (c k : ℕ) (a b : Bool) → c ≡ field 4 4 m → k ≡ getD m 11 0 → part ≡ drop 12 m → a ≡ listedCode c → b ≡ all listedEntry (entriesFrom k 0 part)
-    → listedBook m ≡ (a && b)
-unfolding listedBook
-both-listed m part c k a b ec ek ep ea eb = rw (one-byte 11 m, ← ek, ← ec, ← ep, ← ea, ← eb)
+-- the part of a message from byte 12 on, as it is lent on
+abbrev partOf : List ℕ → List ℕ
+partOf m = take (length m - 12) (drop 12 m)
 
-module _ (time : ℕ) (m t part : List ℕ) (c k : ℕ) (a : Bool) (ec : c ≡ field 4 4 m) (ek : k ≡ getD m 11 0) (ep : part ≡ drop 12 m) (ea : a ≡ listedCode c) where
+module _ (time : ℕ) (m t : List ℕ) (c : ℕ) (a : Bool) (ec : c ≡ field 4 4 m) (ea : a ≡ listedCode c) where
   pub bad-code : a ≡ false → met 15 t ≡ bookTurn time m t
   unfolding bookAnswer listedBook first
   bad-code n =
       let f : listedCode (field 4 4 m) ≡ false = ap listedCode (sym ec) ∙ sym ea ∙ n in
       rw f
 
-  module _ (b : Bool) (eb : b ≡ all listedEntry (entriesFrom k 0 part)) where
+  -- a book message is listed where its code is and all its entries are
+  module _ (k : ℕ) (b : Bool) (ek : k ≡ field 11 1 m) (h : length m ≡ 12 + 24 * noEntries m) (eb : b ≡ all listedEntry (entriesFrom k 0 (partOf m))) where
+    part-drop : partOf m ≡ drop 12 m
+    part-drop = long-part m (omega (arith, h))
+
+    listed-is : listedBook m ≡ (a && b)
+    unfolding listedBook
+    listed-is = rw (← ek, ← ec, ← part-drop, ← ea, ← eb)
+
     pub bad-entry : a ≡ true → b ≡ false → met 15 t ≡ bookTurn time m t
     unfolding bookAnswer first
-    bad-entry y n = rw (both-listed m part c k a b ec ek ep ea eb, y, n)
-
-    listed-is : a ≡ true → b ≡ true → listedBook m ≡ true
-    listed-is y z = both-listed m part c k a b ec ek ep ea eb ∙ rw (y, z)
-
-    count-is : noEntries m ≡ k
-    count-is = one-byte 11 m ∙ sym ek
+    bad-entry y n = rw (listed-is, y, n)
 
     pub no-entries : a ≡ true → b ≡ true → k ≡ 0 → met 0 t ≡ bookTurn time m t
     unfolding bookAnswer booksAfter unsound noSlot misfits first
     no-entries y z e =
-        let n : noEntries m ≡ 0 = count-is ∙ e in
-        rw (listed-is y z, n)
+        let n : noEntries m ≡ 0 = sym ek ∙ e in
+        rw (listed-is, y, z, n)
 
-    module _ (r : ℕ) (u : List ℕ) (h : met r u ≡ placeMet (placeIn c t) c time (entriesFrom k 0 part) t) (y : a ≡ true) (z : b ≡ true) (nz : k ≡ 0 → ⊥) where
-      pub placed-turn : met r u ≡ bookTurn time m t
-      placed-turn =
-          let more : hasEntries m ≡ true = lt-ltb 0 (noEntries m) (omega (arith, count-is, nz)) in
-          (rw (ec, ← count-is, ep) at h) ∙ placed-at time m t (listed-is y z) more (placeIn (securityCode m) t) refl
+    pub placed-turn : (r : ℕ) (u : List ℕ) → met r u ≡ placeMet (placeIn c t) c time (entriesFrom k 0 (partOf m)) t → a ≡ true → b ≡ true → (k ≡ 0 → ⊥) → met r u ≡ bookTurn time m t
+    placed-turn r u q y z nz =
+        let more : hasEntries m ≡ true = lt-ltb 0 (noEntries m) (omega (arith, ek, nz)) in
+        (rw (ec, ek, part-drop) at q) ∙ placed-at time m t (listed-is ∙ rw (y, z)) more (placeIn (securityCode m) t) refl
 
 pub ruleset turning = (
   needs,
-  short-part,
   long-part,
   code-none,
   code-rest,
-  walked-bids,
-  walked-offers,
-  walk-written,
-  walk-stopped,
-  own-bids,
-  own-offers,
-  own-met,
-  own-unsound,
-  free-padded,
-  free-met,
+  part-room,
+  own-ready,
+  own-side,
+  start-bids,
+  start-offers,
+  ready-met,
+  unready-met,
   slot-met,
   held-fits,
   free-fits,

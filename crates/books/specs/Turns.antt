@@ -1,33 +1,29 @@
 -- A book message on one slot, and on the table by slots, as the code goes about it. Assumes nothing.
 use Prim.Native.Nat.{ℕ}
-use mathlib.Core.Bool.{Bool, true, false, cond, not, _&&_}
-use mathlib.Core.List.{List}
-use mathlib.Core.Option.{Option, none, some}
+use mathlib.Core.Bool.{Bool, true, false, cond}
+use mathlib.Core.List.{List, []}
 use lib.Dec.{eqb}
 use Rattle.slots.specs.Slots.{put}
 use Rattle.slots.specs.declared.Slot.{Slot}
 use Rattle.slots.specs.declared.Slot.the-variants.{Held, Free, Full}
-use Rattle.book.specs.Walk.{Book, emptyBook, walk}
-use Rattle.book.specs.Words.{bookWidth, bookOf, wordsOf, sound}
+use Rattle.book.specs.Walk.{emptyBook, walk}
+use Rattle.book.specs.Words.{bookWidth, bookOf, sound}
+use Rattle.book.specs.Arrays.{asSide}
+use Rattle.book.specs.Loading.{Met, met, settled, sideFrom}
 use Rattle.book.specs.declared.Entry.{Entry}
+use Rattle.book.specs.declared.Side.{Side}
 use Rattle.books.specs.Table.{block, bookAnswer, booksAfter}
 
--- an answer, and the words afterwards
-pub record Met : Type 0 where
-  pub answer : ℕ
-  pub words : List ℕ
+-- a code's own slot has to be sound; a free slot's book starts empty
+abbrev pub ready : Bool → List ℕ → Bool
+ready own w = cond own (sound w) true
 
-abbrev pub met : ℕ → List ℕ → Met
-met answer words = record { answer = answer; words = words }
+abbrev pub startSide : Bool → ℕ → ℕ → List ℕ → Side
+startSide own base n w = cond own (sideFrom base n w) (asSide [])
 
--- the words of a slot after a walk over its book: 16 and as they were, or 0 and all of them written
-abbrev pub settled : ℕ → Option Book → List ℕ → Met
-settled c none w = met 16 w
-settled c (some b) w = met 0 (wordsOf c b)
-
--- the words of one slot after entries: of a code's own slot 18 where it is not sound; a free slot's book starts empty
+-- the words of one slot after entries: 18 where it is not ready
 unfoldable pub slotMet : Bool → ℕ → ℕ → List Entry → List ℕ → Met
-slotMet own c time es w = cond (own && not (sound w)) (met 18 w) (settled c (walk time es (cond own (bookOf w) emptyBook)) w)
+slotMet own c time es w = cond (ready own w) (settled c (walk time es (cond own (bookOf w) emptyBook)) w) (met 18 w)
 
 -- the same in the table
 abbrev pub within : ℕ → List ℕ → Met → Met

@@ -1,16 +1,15 @@
 // The lent table of books (document 01, "The book table"): a book message on it, and reading a row out of it.
 ghost use mathlib.Core.Path.{_≡_};
-ghost use mathlib.Core.Bool.{true, false, _&&_};
+ghost use mathlib.Core.Bool.{_&&_};
 ghost use Prim.Native.Nat.{_+_, _-_, _*_, _<_, _≤_};
 ghost use lib.ListN.{length, drop};
 ghost use Rattle.slots.specs.Slots.{slotCount};
-ghost use Rattle.book.specs.Message.{entriesAt, entriesFrom, listedCode, listedSide, listedRank};
+ghost use Rattle.book.specs.Message.{noEntries, entriesAt, entrySize, entriesFrom, listedCode, listedSide, listedRank};
 ghost use Rattle.book.specs.Words.{rowOf};
 ghost use Rattle.wire.specs.Number.{word32};
-ghost use Rattle.book.specs.Walk.{walk as walkBook};
-ghost use Rattle.book.specs.Arrays.{Padded, bookIn};
+ghost use Rattle.book.specs.Loading.{met};
 ghost use Rattle.books.specs.Table.{placeIn, block as blockOf};
-ghost use Rattle.books.specs.Turns.{met, settled, slotMet, within, placeMet, bookTurn};
+ghost use Rattle.books.specs.Turns.{ready, startSide, slotMet, within, placeMet, bookTurn};
 ghost use Rattle.books.specs.Reading.{rowRefused, rowOfSide, rowOfBook, readRow};
 use book::Side;
 use slots::Slot;
@@ -23,56 +22,39 @@ pub struct RowRead {
     pub orders: u64,
 }
 
-// The book of two sides after n entries, written over a slot's words: 0, or 16 and nothing is written.
-fn walked(
-    words: &mut [u64],
-    code: u64,
-    bids: Side,
-    offers: Side,
-    part: &[u8],
-    n: usize,
-    time: u64,
-) -> u64
-    requires { ⌜ (length (now words) ≡ 64) × Padded bids × Padded offers × (n ≤ 255) ⌝ }
-    ensures { λ r. ⌜ met r (now (words .exit)) ≡ settled code (walkBook time (entriesFrom n 0 (now (part .entry))) (bookIn bids offers)) (now (words .entry)) ⌝ }
+// Whether a slot can be worked on: a code's own book has to be sound, and of a free slot nothing is asked.
+fn is_ready(words: &[u64], own: bool) -> bool
+    requires { ⌜ length (now words) ≡ 64 ⌝ }
+    ensures { λ r. ⌜ r ≡ ready own (now (words .entry)) ⌝ }
 {
-    let w = book::walk(bids, offers, part, n, time);
-    if w.answer == 0 {
-        let bids_after = w.bids;
-        let offers_after = w.offers;
-        book::write_book(words, code, bids_after, offers_after);
-        return 0;
+    if own {
+        return book::is_sound(words);
     }
-    16
+    true
 }
 
-// A code's own slot after n entries: 18 where its book is not sound.
-fn in_own(words: &mut [u64], code: u64, part: &[u8], n: usize, time: u64) -> u64
-    requires { ⌜ (length (now words) ≡ 64) × (n ≤ 255) ⌝ }
-    ensures { λ r. ⌜ met r (now (words .exit)) ≡ slotMet true code time (entriesFrom n 0 (now (part .entry))) (now (words .entry)) ⌝ }
+// A side of a slot's book, its ten rows from word `base` on; whatever the words of a free slot are, its book starts empty.
+fn side_in(words: &[u64], base: usize, n: u64, own: bool) -> Side
+    requires { ⌜ base + 30 ≤ length (now words) ⌝ }
+    ensures { λ r. ⌜ r ≡ startSide own base n (now (words .entry)) ⌝ }
 {
-    if book::is_sound(words) {
-        let bids = book::load_side(words, 4, words[1] as usize);
-        let offers = book::load_side(words, 34, words[2] as usize);
-        return walked(words, code, bids, offers, part, n, time);
+    if own {
+        return book::load_side(words, base, n as usize);
+    }
+    book::empty_side()
+}
+
+// A slot's words after n entries: 18 where it is a code's own and its book is not sound.
+fn in_words(words: &mut [u64], own: bool, code: u64, part: &[u8], n: usize, time: u64) -> u64
+    requires { ⌜ (length (now words) ≡ 64) × (n ≤ 255) × (entrySize * n ≤ length (now part)) ⌝ }
+    ensures { λ r. ⌜ met r (now (words .exit)) ≡ slotMet own code time (entriesFrom n 0 (now (part .entry))) (now (words .entry)) ⌝ }
+{
+    if is_ready(words, own) {
+        let bids = side_in(words, 4, words[1], own);
+        let offers = side_in(words, 34, words[2], own);
+        return book::walk(words, code, bids, offers, part, n, time);
     }
     18
-}
-
-// A free slot after n entries: whatever its words are, its book starts empty.
-fn in_free(words: &mut [u64], code: u64, part: &[u8], n: usize, time: u64) -> u64
-    requires { ⌜ (length (now words) ≡ 64) × (n ≤ 255) ⌝ }
-    ensures { λ r. ⌜ met r (now (words .exit)) ≡ slotMet false code time (entriesFrom n 0 (now (part .entry))) (now (words .entry)) ⌝ }
-{
-    walked(
-        words,
-        code,
-        book::empty_side(),
-        book::empty_side(),
-        part,
-        n,
-        time,
-    )
 }
 
 // One slot of the table after n entries: its 64 words are lent on, and no other word can be reached.
@@ -85,20 +67,17 @@ fn in_slot(
     n: usize,
     time: u64,
 ) -> u64
-    requires { ⌜ (k < slotCount 64 (length (now table))) × (n ≤ 255) ⌝ }
+    requires { ⌜ (k < slotCount 64 (length (now table))) × (n ≤ 255) × (entrySize * n ≤ length (now part)) ⌝ }
     ensures { λ r. ⌜ met r (now (table .exit)) ≡ within k (now (table .entry)) (slotMet own code time (entriesFrom n 0 (now (part .entry))) (blockOf k (now (table .entry)))) ⌝ }
 {
     let a = 64 * k;
     let b = a + 64;
-    if own {
-        return in_own(&mut table[a..b], code, part, n, time);
-    }
-    in_free(&mut table[a..b], code, part, n, time)
+    in_words(&mut table[a..b], own, code, part, n, time)
 }
 
 // The table after n entries for a code: in the lowest slot with the code, else the lowest free one, else 17.
 fn placed(table: &mut [u64], code: u64, part: &[u8], n: usize, time: u64) -> u64
-    requires { ⌜ n ≤ 255 ⌝ }
+    requires { ⌜ (n ≤ 255) × (entrySize * n ≤ length (now part)) ⌝ }
     ensures { λ r. ⌜ met r (now (table .exit)) ≡ placeMet (placeIn code (now (table .entry))) code time (entriesFrom n 0 (now (part .entry))) (now (table .entry)) ⌝ }
 {
     let slot = slots::find(table, 64, code);
@@ -119,23 +98,14 @@ fn is_code(code: u64) -> bool
     code <= 99999
 }
 
-// The part of a message that begins at byte 12.
-fn entries_of(m: &[u8]) -> &[u8]
-    ensures { λ r. ⌜ now r ≡ drop entriesAt (now (m .entry)) ⌝ }
-{
-    if m.len() < 12 {
-        return &m[..0];
-    }
-    &m[12..]
-}
-
-// A book message on the table: 15, 18, 17, 16 or 0, in that order; only with 0 is anything written.
+// A book message of the right size on the table: 15, 18, 17, 16 or 0, in that order; only with 0 is anything written.
 pub fn take(table: &mut [u64], m: &[u8], time: u64) -> u64
+    requires { ⌜ length (now m) ≡ entriesAt + entrySize * noEntries (now m) ⌝ }
     ensures { λ r. ⌜ met r (now (table .exit)) ≡ bookTurn time (now (m .entry)) (now (table .entry)) ⌝ }
 {
-    let code = wire::u32_at(m, 4);
-    let n = wire::byte_at(m, 11) as usize;
-    let part = entries_of(m);
+    let code = wire::u32_in(m, 4);
+    let n = wire::u8_in(m, 11) as usize;
+    let part = &m[12..];
     if is_code(code) {
         if book::all_listed(part, n) {
             if n == 0 {

@@ -1,14 +1,15 @@
 -- What the small functions ask: phases, the badge, what a message is, its size and status, and the feed with one thing changed. Assumes nothing.
 use Prim.Native.Nat.{ℕ, _+_, _-_, _*_, _≤_, _<_}
 use mathlib.Core.Path.{_≡_, refl, ap, sym, _∙_}
-use mathlib.Core.Bool.{Bool, true, false, cond, not, _&&_, or-false}
+use mathlib.Core.Bool.{Bool, true, false, cond, not, _&&_, _||_, or-false}
 use mathlib.Core.List.{List, [], _∷_}
 use native.Mathlib.Decide.{decLe}
 use native.Mathlib.Omega.{arith}
 use lib.Dec.{leb, ltb, eqb}
 use lib.ListN.{length, getD}
 use borrow.Author.Needs.{needs}
-use borrow.Author.Tests.{lt-ltb, le-ltb, le-leb, lt-leb, eq-eqb, ne-eqb}
+use borrow.Author.Tests.{lt-ltb, le-ltb, le-leb, lt-leb, eq-eqb, ne-eqb, eqb-true}
+use Rattle.wire.proofs.Bools.{both}
 use Rattle.wire.specs.Choice.{oneOf, pick, first}
 use Rattle.wire.specs.Number.{field}
 use Rattle.slots.specs.Slots as slots
@@ -149,6 +150,22 @@ module _ (m : List ℕ) (n : ℕ) (a : 4 ≤ length m) (e : n ≡ field 0 2 m) w
   pub wrong-sized : (k : Kind) (b : Bool) → n ≡ length m → k ≡ kindOf (field 2 2 m) → b ≡ sized k m → not b ≡ wrongSize m
   unfolding wrongSize
   wrong-sized k b f g h = rw (le-ltb (length m) 4 a, ← e, eq-eqb n (length m) f, ← g, h)
+
+-- a size that is not wrong, and what it says of a book message
+pub size-right : (m : List ℕ) (b : Bool) → b ≡ wrongSize m → b ≡ false → wrongSize m ≡ false
+size-right m b e f = sym e ∙ f
+
+last-holds : (a b : Bool) → (a || not b) ≡ false → b ≡ true
+last-holds a true e = refl
+last-holds true false e = sym e
+last-holds false false e = sym e
+
+pub book-right : (m : List ℕ) → Market Book ≡ kindOf (field 2 2 m) → wrongSize m ≡ false → length m ≡ 12 + 24 * field 11 1 m
+unfolding wrongSize sized bookSized
+book-right m k e =
+    eqb-true (length m) (12 + 24 * field 11 1 m)
+    (both (leb 12 (length m)) (eqb (length m) (12 + 24 * field 11 1 m))
+    (last-holds (ltb (length m) 4 || not (eqb (field 0 2 m) (length m))) (bookSized m) (rw (← k) at e)) .1)
 
 -- what is allowed and seen
 pub in-refreshing : (p : Phase) (i : ℕ) → p ≡ Refreshing → eqb i 0 ≡ allowed (Market Other) p i
@@ -385,6 +402,8 @@ pub ruleset parts = (
   wrong-short,
   wrong-length,
   wrong-sized,
+  size-right,
+  book-right,
   in-refreshing,
   session-allowed,
   market-allowed,

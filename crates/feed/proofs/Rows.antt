@@ -21,7 +21,8 @@ use Rattle.wire.proofs.Unit as the-unit
 use Rattle.wire.proofs.Fronts.{unit-fits, message-length}
 use Rattle.book.specs.Message.{listedBook}
 use Rattle.books.specs.Table.{unsound, noSlot, misfits, bookAnswer, booksAfter}
-use Rattle.books.specs.Turns.{Met, met, bookTurn}
+use Rattle.books.specs.Turns.{bookTurn}
+use Rattle.book.specs.Loading.{Met, met}
 use Rattle.feed.specs.Messages.{kindOf, onMarket, market, book, wrongSize, statusOf, listed}
 use Rattle.feed.specs.Feeds.{deaf, inPhase, nextIs, internalIs, heardAt, wholeIs, freshIs}
 use Rattle.feed.specs.Events.{Tables, Event, Connect, Arrive, Cut, timeOf, Linked, Message, cutFrom, news, onMessage, newsSize, offered}

@@ -612,7 +612,7 @@ impl Feed {
 
     // A book message that is allowed and not Seen: 15, 18, 17, 16 or Taken.
     fn book(self, table: &mut [u64], internal: u32, message: &[u8], time: u64) -> Given
-        requires { ⌜ (Kind.Market Datum.Book ≡ kindIn (now message)) × (self .next ≤ lastSeqNum) ⌝ }
+        requires { ⌜ (Kind.Market Datum.Book ≡ kindIn (now message)) × (wrongSize (now message) ≡ false) × (self .next ≤ lastSeqNum) ⌝ }
         ensures { λ r. ⌜ outOf r (now (table .exit)) ≡ outcomeFrom 8 (stateOf self (now (table .entry))) (Cut (self .next) internal (now (message .entry)) time) ⌝ }
     {
         let answer = books::take(table, message, time);
@@ -631,7 +631,7 @@ impl Feed {
         message: &[u8],
         time: u64,
     ) -> Given
-        requires { ⌜ (Kind.Market datum ≡ kindIn (now message)) × (self .next ≤ lastSeqNum) ⌝ }
+        requires { ⌜ (Kind.Market datum ≡ kindIn (now message)) × (wrongSize (now message) ≡ false) × (self .next ≤ lastSeqNum) ⌝ }
         ensures { λ r. ⌜ outOf r (now (table .exit)) ≡ outcomeFrom 8 (stateOf self (now (table .entry))) (Cut (self .next) internal (now (message .entry)) time) ⌝ }
     {
         match datum {
@@ -642,7 +642,7 @@ impl Feed {
 
     // A message that is allowed and not Seen.
     fn met(self, table: &mut [u64], kind: Kind, internal: u32, message: &[u8], time: u64) -> Given
-        requires { ⌜ (kind ≡ kindIn (now message)) × (self .next ≤ lastSeqNum) ⌝ }
+        requires { ⌜ (kind ≡ kindIn (now message)) × (wrongSize (now message) ≡ false) × (self .next ≤ lastSeqNum) ⌝ }
         ensures { λ r. ⌜ outOf r (now (table .exit)) ≡ outcomeFrom 8 (stateOf self (now (table .entry))) (Cut (self .next) internal (now (message .entry)) time) ⌝ }
     {
         match kind {
@@ -677,7 +677,7 @@ impl Feed {
         message: &[u8],
         time: u64,
     ) -> Given
-        requires { ⌜ (kind ≡ kindIn (now message)) × (self .next ≤ lastSeqNum) ⌝ }
+        requires { ⌜ (kind ≡ kindIn (now message)) × (wrongSize (now message) ≡ false) × (self .next ≤ lastSeqNum) ⌝ }
         ensures { λ r. ⌜ outOf r (now (table .exit)) ≡ outcomeFrom 6 (stateOf self (now (table .entry))) (Cut (self .next) internal (now (message .entry)) time) ⌝ }
     {
         let phase = self.phase;

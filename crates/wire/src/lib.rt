@@ -106,13 +106,6 @@ pub fn u32_at(s: &[u8], at: usize) -> u64
     number_at(s, at, 4)
 }
 
-// The number in the 8 bytes from `at` on; a byte beyond the end counts as 0.
-pub fn u64_at(s: &[u8], at: usize) -> u64
-    ensures { λ r. ⌜ (r ≡ field at 8 (now (s .entry))) × (r < 18446744073709551616) ⌝ }
-{
-    number_at(s, at, 8)
-}
-
 // The word that a price is kept as, of the 4 bytes it came in.
 pub fn biased(raw: u64) -> u64
     requires { ⌜ raw < 4294967296 ⌝ }

@@ -8,7 +8,9 @@ take-spec =
     (tie.spec
     (λ c κs. search turning)
     (λ c κs. search turning)
-    (λ c κs. search turning)
+    (λ c. search turning)
+    (λ c. search turning)
+    (λ c. search turning)
     (λ c κs. search turning)
     (λ c κs. search turning)
     (λ c. search turning)

@@ -1,9 +1,9 @@
 use Rattle.books.proofs.Turning.{turning}
-use Rattle.books.proofs.in_own.Statement.{statement}
-use Rattle.books.proofs.in_own.Tie as tie
+use Rattle.books.proofs.in_words.Statement.{statement}
+use Rattle.books.proofs.in_words.Tie as tie
 
-pub in-own-spec : {M : Type 1} → statement M
-in-own-spec =
+pub in-words-spec : {M : Type 1} → statement M
+in-words-spec =
     tie.close
     (tie.spec
     (λ c κs. search turning)
