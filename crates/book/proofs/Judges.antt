@@ -1,13 +1,13 @@
 -- A book's soundness as the code tests it, row by row (specs/Words, specs/Loading). Assumes nothing.
-use Prim.Native.Nat.{ℕ, zero, suc, _+_, _*_, _≤_, _<_}
+use Prim.Native.Nat.{ℕ, suc, _+_, _*_, _≤_, _<_}
 use mathlib.Core.Path.{_≡_, refl, ap, sym, _∙_}
-use mathlib.Core.Bool.{Bool, true, false, _&&_}
+use mathlib.Core.Bool.{Bool, true, false, _&&_, and-true, and-false, and-assoc}
 use mathlib.Core.List.{List, [], _∷_}
 use native.Mathlib.Numerals.{add-one}
 use native.Mathlib.Omega.{arith}
 use lib.Dec.{ltb, eqb}
-use lib.ListN.{length, take, drop, getD, drop-of-length-le}
-use lib.Seq.{drop-cons}
+use lib.ListN.{length, take, drop, getD, length-take, drop-of-length-le}
+use lib.Seq.{take-all, slice, slice-cons}
 use borrow.Author.Needs.{needs}
 use borrow.Author.Tests.{lt-ltb, le-ltb, le-leb, lt-leb, eq-eqb, ne-eqb}
 use Rattle.wire.specs.Choice.{all}
@@ -41,110 +41,104 @@ pub price-in : (r : Row) → r .price < word32 → ltb (r .orders) word32 ≡ bo
 unfolding bounded
 price-in r h = rw (lt-ltb (r .price) word32 h)
 
-pub row-unused : (w : Way) (n i above : ℕ) (r : Row) (b : Bool) → n ≤ i → b ≡ zeroRow r → b ≡ soundRow w n i above r
+pub row-first : (w : Way) (i above : ℕ) (r : Row) (t : Bool) → t ≡ bounded r → t ≡ true → i ≡ 0 → true ≡ soundRow w i above r
 unfolding soundRow
-row-unused w n i above r b h e = rw (le-leb n i h) e
+row-first w i above r t e y z = rw (← e, y, eq-eqb i 0 z)
 
-pub row-first : (w : Way) (n i above : ℕ) (r : Row) (t : Bool) → i < n → t ≡ bounded r → t ≡ true → i ≡ 0 → true ≡ soundRow w n i above r
+pub row-below : (w : Way) (i above : ℕ) (r : Row) (t b : Bool) → t ≡ bounded r → t ≡ true → (i ≡ 0 → ⊥) → b ≡ better w above (r .price) → b ≡ soundRow w i above r
 unfolding soundRow
-row-first w n i above r t h e y z = rw (lt-leb n i h, ← e, y, eq-eqb i 0 z)
+row-below w i above r t b e y z q = rw (← e, y, ne-eqb i 0 z) q
 
-pub row-below : (w : Way) (n i above : ℕ) (r : Row) (t b : Bool) → i < n → t ≡ bounded r → t ≡ true → (i ≡ 0 → ⊥) → b ≡ better w above (r .price) → b ≡ soundRow w n i above r
+pub row-unbounded : (w : Way) (i above : ℕ) (r : Row) (t : Bool) → t ≡ bounded r → t ≡ false → false ≡ soundRow w i above r
 unfolding soundRow
-row-below w n i above r t b h e y z q = rw (lt-leb n i h, ← e, y, ne-eqb i 0 z) q
+row-unbounded w i above r t e y = rw (← e, y)
 
-pub row-unbounded : (w : Way) (n i above : ℕ) (r : Row) (t : Bool) → i < n → t ≡ bounded r → t ≡ false → false ≡ soundRow w n i above r
-unfolding soundRow
-row-unbounded w n i above r t h e y = rw (lt-leb n i h, ← e, y)
+-- the tests of the used rows from the i-th on
+unfoldable pub usedFrom : Way → ℕ → ℕ → List Row → Bool
+usedFrom w i above [] = true
+usedFrom w i above (r ∷ l) = soundRow w i above r && usedFrom w (i + 1) (r .price) l
 
--- rows that each are worse than the one before, the first than x
-unfoldable pub follow : Way → ℕ → List Row → Bool
-follow w x [] = true
-follow w x (y ∷ s) = better w x (y .price) && follow w (y .price) s
+-- the two tests of one row among those of the rows behind it
+mixed : (b f bs fs : Bool) → (b && f) && (bs && fs) ≡ ((b && bs) && (f && fs))
+mixed true true bs fs = refl
+mixed true false true fs = refl
+mixed true false false fs = refl
+mixed false f bs fs = refl
 
--- which is what a side best first is behind its first row
-pub best-is : (w : Way) (r : Row) (s : List Row) → bestFirst w (r ∷ s) ≡ follow w (r .price) s
-unfolding bestFirst follow
-best-is w r [] = refl
-best-is w r (y ∷ s) = ap (λ (b : Bool). better w (r .price) (y .price) && b) (best-is w y s)
+-- of the rows below row r
+used-below : (w : Way) (i : ℕ) (r : Row) (l : List Row) → 0 < i → usedFrom w i (r .price) l ≡ (all bounded l && bestFirst w (r ∷ l))
+unfolding usedFrom soundRow all bestFirst
+used-below w i r [] p = refl
+used-below w i r (y ∷ l) p =
+    rw (ne-eqb i 0 (λ z. omega arith), used-below w (i + 1) y l (omega arith)) (mixed (bounded y) (better w (r .price) (y .price)) (all bounded l) (bestFirst w (y ∷ l)))
 
--- the tests of the rows from the i-th on
-unfoldable pub soundFrom : Way → ℕ → ℕ → ℕ → List Row → Bool
-soundFrom w n i above [] = true
-soundFrom w n i above (r ∷ l) = soundRow w n i above r && soundFrom w n (i + 1) (r .price) l
+-- of all used rows
+used-all : (w : Way) (l : List Row) → usedFrom w 0 0 l ≡ (all bounded l && bestFirst w l)
+unfolding usedFrom soundRow all bestFirst
+used-all w [] = refl
+used-all w (r ∷ l) = rw (used-below w 1 r l (omega arith)) (mixed (bounded r) true (all bounded l) (bestFirst w (r ∷ l)))
 
--- the tests of one row among those of the rows behind it
-mixed : (b f z bs fs : Bool) → (b && f) && (z && bs && fs) ≡ (z && (b && bs) && (f && fs))
-mixed true true z bs fs = refl
-mixed true false true true fs = refl
-mixed true false true false fs = refl
-mixed true false false bs fs = refl
-mixed false f true bs fs = refl
-mixed false f false bs fs = refl
+module _ (base n : ℕ) (w : List ℕ) where
+  -- the rows from the i-th to the m-th: the row that is read, and those behind it
+  next-row : (m i : ℕ) (r : Row) → i < m → m ≤ 10 → r ≡ rowOf (drop (base + 3 * i) w) → slice i m (rowsFrom base w) ≡ r ∷ slice (i + 1) m (rowsFrom base w)
+  next-row m i r h f e =
+      rw (add-one i) (slice-cons i m (rowsFrom base w) noRow h (omega (arith, rows-ten base w)) ∙ ap (λ (x : Row). x ∷ slice (suc i) m (rowsFrom base w)) (row-is base w i (omega arith) ∙ sym e))
 
--- no row is used
-plain : (a : Bool) → (a && true && true) ≡ a
-plain true = refl
-plain false = refl
+  -- the used rows before the i-th are sound
+  pub record Used (way : Way) (above i : ℕ) : Type 0 where
+    pub few : n ≤ 10
+    pub room : base + 30 ≤ length w
+    pub same : usedFrom way i above (slice i n (rowsFrom base w)) ≡ (all bounded (take n (rowsFrom base w)) && bestFirst way (take n (rowsFrom base w)))
 
-module _ (w : Way) (n : ℕ) where
-  -- rows that are not used
-  unused-from : (i above : ℕ) (l : List Row) → n ≤ i → soundFrom w n i above l ≡ all zeroRow l
-  unfolding soundFrom soundRow all
-  unused-from i above [] h = refl
-  unused-from i above (r ∷ l) h = rw (le-leb n i h) (ap (λ (b : Bool). zeroRow r && b) (unused-from (i + 1) (r .price) l (omega arith)))
+  pub used-starts : (way : Way) → base + 30 ≤ length w → n ≤ 10 → Used way 0 0
+  used-starts way h f = record { few = f; room = h; same = used-all way (take n (rowsFrom base w)) }
 
-  -- rows of which the first k are used
-  used-from : (i above k : ℕ) (l : List Row) → 0 < i → n ≡ i + k → soundFrom w n i above l ≡ (all zeroRow (drop k l) && all bounded (take k l) && follow w above (take k l))
-  unfolding soundFrom soundRow all follow
-  used-from i above zero l p e = unused-from i above l (omega arith) ∙ sym (plain (all zeroRow l))
-  used-from i above (suc k) [] p e = refl
-  used-from i above (suc k) (r ∷ l) p e =
-      rw (lt-leb n i (omega arith), ne-eqb i 0 (λ z. omega arith))
-      (ap (λ (b : Bool). (bounded r && better w above (r .price)) && b) (used-from (i + 1) (r .price) k l (omega arith) (omega arith))
-      ∙ mixed (bounded r) (better w above (r .price)) (all zeroRow (drop k l)) (all bounded (take k l)) (follow w (r .price) (take k l)))
+  module _ (way : Way) (above i : ℕ) (r : Row) (b : Bool) (p : Used way above i) (h : i < n) (e : r ≡ rowOf (drop (base + 3 * i) w)) (q : b ≡ soundRow way i above r) where
+    pub used-goes : b ≡ true → Used way (r .price) (i + 1)
+    unfolding usedFrom
+    used-goes y = record { few = p .few; room = p .room; same = rw (next-row n i r h (p .few) e, ← q, y) at (p .same) }
 
--- all rows
-from-start : (w : Way) (n : ℕ) (l : List Row) → n ≤ 10 → soundFrom w n 0 0 l ≡ soundSide w n l
-unfolding soundFrom soundRow soundSide all bestFirst
-from-start w zero l h = unused-from w 0 0 0 l (omega arith) ∙ sym (plain (all zeroRow l))
-from-start w (suc k) [] h = rw (le-leb (suc k) 10 h)
-from-start w (suc k) (r ∷ l) h =
-    rw (le-leb (suc k) 10 h, lt-leb (suc k) 0 (omega arith), best-is w r (take k l))
-    (ap (λ (b : Bool). (bounded r && true) && b) (used-from w (suc k) 1 (r .price) k l (omega arith) (omega arith))
-    ∙ mixed (bounded r) true (all zeroRow (drop k l)) (all bounded (take k l)) (follow w (r .price) (take k l)))
+    pub used-stops : b ≡ false → false ≡ (all bounded (take n (rowsFrom base w)) && bestFirst way (take n (rowsFrom base w)))
+    unfolding usedFrom
+    used-stops y = rw (next-row n i r h (p .few) e, ← q, y) at (p .same)
 
--- the first i rows are sound
-pub record Judging (base count : ℕ) (w : List ℕ) (way : Way) (n above i : ℕ) : Type 0 where
-  pub upto : i ≤ 10
-  pub room : base + 30 ≤ length w
-  pub same : soundFrom way n i above (drop i (rowsFrom base w)) ≡ soundSide way count (rowsFrom base w)
+  pub used-ends : (way : Way) (above i : ℕ) → Used way above i → n ≤ i → true ≡ (all bounded (take n (rowsFrom base w)) && bestFirst way (take n (rowsFrom base w)))
+  unfolding usedFrom
+  used-ends way above i p h = rw (drop-of-length-le (take n (rowsFrom base w)) {i = i} (rw length-take (omega arith))) at (p .same)
 
--- a count above ten
+  -- the rows from the n-th to the i-th are zero
+  pub record Rest (i : ℕ) : Type 0 where
+    pub room : base + 30 ≤ length w
+    pub same : all zeroRow (slice i 10 (rowsFrom base w)) ≡ all zeroRow (drop n (rowsFrom base w))
+
+  pub rest-starts : base + 30 ≤ length w → Rest n
+  rest-starts h = record { room = h; same = rw (take-all 10 (rowsFrom base w) (omega (arith, rows-ten base w))) }
+
+  module _ (i : ℕ) (r : Row) (b : Bool) (p : Rest i) (h : i < 10) (e : r ≡ rowOf (drop (base + 3 * i) w)) (q : b ≡ zeroRow r) where
+    pub rest-goes : b ≡ true → Rest (i + 1)
+    unfolding all
+    rest-goes y = record { room = p .room; same = rw (next-row 10 i r h (omega arith) e, ← q, y) at (p .same) }
+
+    pub rest-stops : b ≡ false → false ≡ all zeroRow (drop n (rowsFrom base w))
+    unfolding all
+    rest-stops y = rw (next-row 10 i r h (omega arith) e, ← q, y) at (p .same)
+
+  pub rest-ends : (i : ℕ) → Rest i → 10 ≤ i → true ≡ all zeroRow (drop n (rowsFrom base w))
+  unfolding all
+  rest-ends i p h = rw (drop-of-length-le (take 10 (rowsFrom base w)) {i = i} (rw length-take (omega arith))) at (p .same)
+
+-- the three tests of a side
 pub too-many : (w : Way) (count : ℕ) (rows : List Row) → 10 < count → false ≡ soundSide w count rows
 unfolding soundSide
 too-many w count rows h = rw (lt-leb count 10 h)
 
-pub judge-starts : (base count : ℕ) (w : List ℕ) (way : Way) → base + 30 ≤ length w → count ≤ 10 → Judging base count w way count 0 0
-judge-starts base count w way h f = record { upto = omega arith; room = h; same = from-start way count (rowsFrom base w) f }
+pub used-unsound : (w : Way) (n : ℕ) (rows : List Row) (t : Bool) → n ≤ 10 → t ≡ (all bounded (take n rows) && bestFirst w (take n rows)) → t ≡ false → false ≡ soundSide w n rows
+unfolding soundSide
+used-unsound w n rows t h e y = rw (le-leb n 10 h, and-assoc (all zeroRow (drop n rows)), ← e, y, and-false)
 
--- one row more
-module _ (base count : ℕ) (w : List ℕ) (way : Way) (n above i : ℕ) (r : Row) (b : Bool) (p : Judging base count w way n above i) (h : i < 10) (e : r ≡ rowOf (drop (base + 3 * i) w)) (q : b ≡ soundRow way n i above r) where
-  next : soundFrom way n i above (drop i (rowsFrom base w)) ≡ (b && soundFrom way n (i + 1) (r .price) (drop (i + 1) (rowsFrom base w)))
-  unfolding soundFrom
-  next =
-      ap (soundFrom way n i above) (drop-cons (rowsFrom base w) i noRow (omega (arith, rows-ten base w)) ∙ ap (λ (x : Row). x ∷ drop (suc i) (rowsFrom base w)) (row-is base w i h ∙ sym e))
-      ∙ rw (← q, add-one i)
-
-  pub judge-goes : b ≡ true → Judging base count w way n (r .price) (i + 1)
-  judge-goes y = record { upto = omega arith; room = p .room; same = sym (next ∙ rw y) ∙ p .same }
-
-  pub judge-stops : b ≡ false → false ≡ soundSide way count (rowsFrom base w)
-  judge-stops y = sym (next ∙ rw y) ∙ p .same
-
-pub judge-ends : (base count : ℕ) (w : List ℕ) (way : Way) (n above i : ℕ) → Judging base count w way n above i → 10 ≤ i → true ≡ soundSide way count (rowsFrom base w)
-unfolding soundFrom
-judge-ends base count w way n above i p h = sym (ap (soundFrom way n i above) (drop-of-length-le (rowsFrom base w) {i = i} (omega (arith, rows-ten base w)))) ∙ p .same
+pub both-parts : (w : Way) (n : ℕ) (rows : List Row) (t b : Bool) → n ≤ 10 → t ≡ (all bounded (take n rows) && bestFirst w (take n rows)) → t ≡ true → b ≡ all zeroRow (drop n rows) → b ≡ soundSide w n rows
+unfolding soundSide
+both-parts w n rows t b h e y q = rw (le-leb n 10 h, and-assoc (all zeroRow (drop n rows)), ← e, y, and-true) q
 
 -- the three tests of a book
 pub spare-used : (w : List ℕ) → (getD w 3 0 ≡ 0 → ⊥) → false ≡ sound w
@@ -166,15 +160,20 @@ pub ruleset judges = (
   zero-orders,
   price-out,
   price-in,
-  row-unused,
   row-first,
   row-below,
   row-unbounded,
+  used-starts,
+  used-goes,
+  used-stops,
+  used-ends,
+  rest-starts,
+  rest-goes,
+  rest-stops,
+  rest-ends,
   too-many,
-  judge-starts,
-  judge-goes,
-  judge-stops,
-  judge-ends,
+  used-unsound,
+  both-parts,
   spare-used,
   bids-unsound,
   both-sides,

@@ -1,16 +1,16 @@
--- A side read from a book's words by value, the test of one of its rows, a sound book by value, and a book's words after a walk (document 01, "The book table"). Assumes nothing.
+-- A side read from a book's words by value, the test of one of its used rows, a sound book by value, and a book's words after a walk (document 01, "The book table"). Assumes nothing.
 use Prim.Native.Nat.{ℕ, _≤_}
 use mathlib.Core.Path.{_≡_}
-use mathlib.Core.Bool.{Bool, true, cond, _&&_, _||_}
+use mathlib.Core.Bool.{Bool, true, _&&_, _||_}
 use mathlib.Core.List.{List}
 use mathlib.Core.Option.{Option, none, some}
 use lib.ListN.{length}
-use lib.Dec.{leb, eqb}
+use lib.Dec.{eqb}
 use Rattle.wire.specs.Choice.{all}
 use Rattle.book.specs.Message.{depth}
 use Rattle.book.specs.Sides.{better}
 use Rattle.book.specs.Walk.{Book}
-use Rattle.book.specs.Words.{rowsFrom, wordsOf, bestFirst, bounded, zeroRow}
+use Rattle.book.specs.Words.{rowsFrom, wordsOf, bestFirst, bounded}
 use Rattle.book.specs.declared.Way.{Way}
 use Rattle.book.specs.declared.Way.the-variants.{Bid, Offer}
 use Rattle.book.specs.declared.Row.{Row}
@@ -20,9 +20,9 @@ use Rattle.book.specs.declared.Side.{Side}
 abbrev pub sideFrom : ℕ → ℕ → List ℕ → Side
 sideFrom base n w = record { n = n; rows = rowsFrom base w }
 
--- row i of ten rows of which n are used, below a row with the price `above`: zero where it is not used
-unfoldable pub soundRow : Way → ℕ → ℕ → ℕ → Row → Bool
-soundRow w n i above r = cond (leb n i) (zeroRow r) (bounded r && (eqb i 0 || better w above (r .price)))
+-- row i of the rows that are used, below a row with the price `above`
+unfoldable pub soundRow : Way → ℕ → ℕ → Row → Bool
+soundRow w i above r = bounded r && (eqb i 0 || better w above (r .price))
 
 -- a side by value: at most ten rows, price and orders words below 4,294,967,296, each row better than the next
 pub record SoundRows (w : Way) (s : List Row) : Type 0 where

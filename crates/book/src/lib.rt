@@ -2,8 +2,8 @@
 ghost use mathlib.Core.Path.{_≡_};
 ghost use mathlib.Core.List.{[]};
 ghost use Prim.Native.Nat.{_+_, _-_, _*_, _≤_, _<_, min};
-ghost use lib.ListN.{length, set, drop};
-ghost use mathlib.Core.Bool.{true, _||_};
+ghost use lib.ListN.{length, set, take, drop};
+ghost use mathlib.Core.Bool.{true, _&&_, _||_};
 ghost use lib.Dec.{leb, ltb};
 ghost use Rattle.book.specs.Message.{depth, new, entrySize, entryOf, entryAt, entriesFrom, listedEntry};
 ghost use Rattle.wire.specs.Number.{word32};
@@ -12,7 +12,7 @@ ghost use Rattle.book.specs.Walk.{walk as walkBook};
 ghost use Rattle.book.specs.Sides.{better, noRow, newRows, deleteRows, fits, rowsAfter};
 ghost use Rattle.book.specs.Arrays.{live, asSide, Padded, fitsAt, bookIn};
 ghost use Rattle.slots.specs.Slots.{overlay};
-ghost use Rattle.book.specs.Words.{bookWidth, rowWidth, rowOf, rowWords, rowsFrom, sideWords, wordsOf, bounded, zeroRow, soundSide, sound};
+ghost use Rattle.book.specs.Words.{bookWidth, rowWidth, rowOf, rowWords, rowsFrom, sideWords, wordsOf, bestFirst, bounded, zeroRow, soundSide, sound};
 ghost use Rattle.book.specs.Loading.{sideFrom, soundRow, met, settled};
 
 // The two sides.
@@ -400,13 +400,10 @@ fn is_bounded(row: Row) -> bool
     row.orders < 4294967296
 }
 
-// Whether row i of a side's ten is sound where n are used: an unused row is zero, a used one bounded and strictly worse than the row above.
-fn row_sound(way: Way, n: usize, i: usize, above: u64, row: Row) -> bool
-    ensures { λ r. ⌜ r ≡ soundRow way n i above row ⌝ }
+// Whether used row i of a side is sound: bounded, and strictly worse than the row above, where there is one.
+fn row_sound(way: Way, i: usize, above: u64, row: Row) -> bool
+    ensures { λ r. ⌜ r ≡ soundRow way i above row ⌝ }
 {
-    if n <= i {
-        return is_zero(row);
-    }
     if is_bounded(row) {
         if i == 0 {
             return true;
@@ -414,6 +411,42 @@ fn row_sound(way: Way, n: usize, i: usize, above: u64, row: Row) -> bool
         return is_better(way, above, row.price);
     }
     false
+}
+
+// Whether the first n of the ten rows from word `base` on are bounded, and each strictly worse than the one above.
+fn used_sound(block: &[u64], base: usize, n: usize, way: Way) -> bool
+    requires { ⌜ (base + 30 ≤ length (now block)) × (n ≤ depth) ⌝ }
+    ensures { λ r. ⌜ r ≡ (all bounded (take n (rowsFrom base (now (block .entry)))) && bestFirst way (take n (rowsFrom base (now (block .entry))))) ⌝ }
+{
+    let mut above = 0;
+    let mut i = 0;
+    while i < n {
+        let row = row_at(block, base + 3 * i);
+        if row_sound(way, i, above, row) {
+            above = row.price;
+            i += 1;
+        } else {
+            return false;
+        }
+    }
+    true
+}
+
+// Whether the rows behind the first n of the ten are zero.
+fn rest_zero(block: &[u64], base: usize, n: usize) -> bool
+    requires { ⌜ base + 30 ≤ length (now block) ⌝ }
+    ensures { λ r. ⌜ r ≡ all zeroRow (drop n (rowsFrom base (now (block .entry)))) ⌝ }
+{
+    let mut i = n;
+    while i < 10 {
+        let row = row_at(block, base + 3 * i);
+        if is_zero(row) {
+            i += 1;
+        } else {
+            return false;
+        }
+    }
+    true
 }
 
 // Whether a side is sound: its ten rows from word `base` on, of which as many are used as its count says.
@@ -425,18 +458,10 @@ fn side_sound(block: &[u64], base: usize, count: u64, way: Way) -> bool
         return false;
     }
     let n = count as usize;
-    let mut above = 0;
-    let mut i = 0;
-    while i < 10 {
-        let row = row_at(block, base + 3 * i);
-        if row_sound(way, n, i, above, row) {
-            above = row.price;
-            i += 1;
-        } else {
-            return false;
-        }
+    if used_sound(block, base, n, way) {
+        return rest_zero(block, base, n);
     }
-    true
+    false
 }
 
 // Whether a book is sound.

@@ -10,6 +10,4 @@ row-sound-spec =
     (λ c. search judges)
     (λ c κs. search judges)
     (λ c. search judges)
-    (λ c κs. search judges)
-    (λ c. search judges)
     (λ c. search judges))
