@@ -1,7 +1,7 @@
 #!/usr/bin/env bash
 # Builds the Rust side into target/rust with plain rustc, against target/staticlib/libscreen.a, and runs a part of it:
 #   bash rust/build.sh test [..]       the comparisons; the last line is 'N passed, 0 failed'
-#   bash rust/build.sh bench [--short] nanoseconds a message, or only that all three ways agree
+#   bash rust/build.sh bench [--short] nanoseconds a message (on Arm x86-64 instructions), or only that all three ways agree
 #   bash rust/build.sh paint [..]      six panels from a capture (--help)
 #   bash rust/build.sh capture [FILE]  writes captures/morning.bin anew
 #   bash rust/build.sh header          include/mmdh.h from a C program
@@ -108,8 +108,12 @@ case $part in
     bench)
         library twin && library exchange && over_archive
         program bench twin exchange mmdh
-        [ ${#run[@]} -eq 0 ] || set -- --emulated
-        "${run[@]}" "$out/bench" "$@"
+        if [ ${#run[@]} -eq 0 ] || [ $# -gt 0 ]; then
+            "${run[@]}" "$out/bench" "$@"
+        else
+            # under an emulator times mean nothing
+            "${run[@]}" "$out/bench" --short && bash rust/bench/count.sh
+        fi
         ;;
     paint)
         over_archive && program paint mmdh

@@ -1,11 +1,11 @@
 #!/usr/bin/env bash
-# Counts x86-64 instructions a message of the library, the plain twin and the tuned one, under qemu-x86_64.
+# Counts x86-64 instructions a message of the library, the plain twin and the tuned one, under qemu-x86_64:
+#   bash rust/bench/count.sh [SLOTS..]     128, 512 and 4096 where none is named; some minutes
 # The difference of a run of 1,500 messages and one of 300 leaves out all that is no arrival; it repeats to the digit.
-# Run from the repository's root after 'bash rust/build.sh bench --short'.
+# 'bash rust/build.sh bench' runs it on Arm; elsewhere run it from the repository's root after 'bash rust/build.sh bench --short'.
 set -u
 cd "$(dirname "$0")/../.." || exit 1
 bench=target/rust/bench
-slots=${1:-128}
 if [ ! -x "$bench" ]; then
     echo "count: no $bench; run bash rust/build.sh bench --short first" >&2
     exit 1
@@ -18,12 +18,27 @@ single=-singlestep
 if qemu-x86_64 -help 2>/dev/null | grep -q one-insn-per-tb; then single=-one-insn-per-tb; fi
 
 instructions() {
-    qemu-x86_64 "$single" -d nochain,exec -D /dev/stdout "$bench" --count "$1" "$slots" "$2" | grep -c '^Trace'
+    qemu-x86_64 "$single" -d nochain,exec -D /dev/stdout "$bench" --count "$1" "$2" "$3" | grep -c '^Trace'
 }
 
-echo "x86-64 instructions a message, $slots slots"
-for walker in library plain tuned; do
-    long=$(instructions "$walker" 1500)
-    short=$(instructions "$walker" 300)
-    printf '%-8s %6d\n' "$walker" $(((long - short) / 1200))
+# Both runs of one walker, side by side.
+a_message() {
+    local long short_file
+    short_file=$(mktemp)
+    instructions "$1" "$2" 300 >"$short_file" &
+    long=$(instructions "$1" "$2" 1500)
+    wait
+    echo $(((long - $(cat "$short_file")) / 1200))
+    rm -f "$short_file"
+}
+
+[ $# -gt 0 ] || set -- 128 512 4096
+echo "x86-64 instructions a message"
+echo "slots  library    plain    tuned  library/plain  library/tuned"
+for slots in "$@"; do
+    library=$(a_message library "$slots")
+    plain=$(a_message plain "$slots")
+    tuned=$(a_message tuned "$slots")
+    awk -v s="$slots" -v l="$library" -v p="$plain" -v t="$tuned" \
+        'BEGIN { printf "%5d %8d %8d %8d %14.2f %14.2f\n", s, l, p, t, l / p, l / t }'
 done

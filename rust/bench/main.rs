@@ -9,7 +9,7 @@ use course::{Course, Walker, WALKERS};
 use std::process::exit;
 use std::time::Instant;
 
-const USAGE: &str = "bench [--short | --emulated | --count library|plain|tuned SLOTS MESSAGES]";
+const USAGE: &str = "bench [--short | --count library|plain|tuned SLOTS MESSAGES]";
 
 /// Slots of the table, messages of a pass, passes.
 const COURSES: [(usize, usize, usize); 3] = [(128, 10_000, 60), (512, 5_000, 60), (4_096, 1_500, 60)];
@@ -86,10 +86,6 @@ fn main() {
     let done = match words.first().map(String::as_str) {
         None => full(),
         Some("--short") => short(),
-        Some("--emulated") => {
-            println!("under an emulator times mean nothing: only the tables are compared");
-            short()
-        }
         Some("--count") => count(&words[1..]),
         Some(_) => Err(USAGE.to_string()),
     };

@@ -76,10 +76,6 @@ module _ (s : Side) (p : Padded s) where
   pub behind : (j : ℕ) → s .n ≤ j → j < 10 → getD (s .rows) j noRow ≡ noRow
   behind j h t = ap (λ (x : List Row). getD x j noRow) (p .zeros) ∙ pad-behind (live s) j (omega (arith, live-n)) t
 
-  -- a side is made of its rows
-  pub padded-is : asSide (live s) ≡ s
-  padded-is = side-is (asSide (live s)) s live-n (sym (p .zeros))
-
 -- a side made of at most ten rows has those rows, and is padded
 pub live-of : (l : List Row) → length l ≤ 10 → live (asSide l) ≡ l
 live-of l h = take-take (length l) 10 (l ++ noRows) h ∙ take-append-seam l noRows

@@ -17,7 +17,7 @@ use Rattle.wire.proofs.Bools.{both, join}
 use Rattle.book.specs.Sides.{noRow}
 use Rattle.book.specs.Walk.{Book}
 use Rattle.book.specs.Words.{bidCount, offerCount, spareWord, bidsAt, offersAt, rowOf, rowWords, rowsFrom, bookOf, pad, sideWords, wordsOf, zeroRow, soundSide, sound}
-use Rattle.book.specs.Arrays.{asSide, Padded, bookIn}
+use Rattle.book.specs.Arrays.{Padded}
 use Rattle.book.specs.Loading.{sideFrom, SoundRows, SoundBook}
 use Rattle.book.specs.declared.Way.{Way}
 use Rattle.book.specs.declared.Way.the-variants.{Bid, Offer}
@@ -74,10 +74,6 @@ module _ (c : ℕ) (b : Book) where
     bids = ((λ j. take (bid-count-back j) (bids-back j)) ∙ live-of (b .bids) h) i;
     offers = ((λ j. take (offer-count-back j) (offers-back j)) ∙ live-of (b .offers) k) i;
   }
-
--- two sides made of a book of at most ten rows a side are that book
-pub book-in : (b : Book) → length (b .bids) ≤ 10 → length (b .offers) ≤ 10 → bookIn (asSide (b .bids)) (asSide (b .offers)) ≡ b
-book-in b h k = λ i. record { bids = live-of (b .bids) h i; offers = live-of (b .offers) k i }
 
 -- three words are those of their row
 three : (b : List ℕ) → length b ≡ 3 → rowWords (rowOf b) ≡ b

@@ -23,13 +23,8 @@ use Rattle.book.specs.declared.Way.the-variants.{Bid, Offer}
 use Rattle.book.specs.declared.Row.{Row}
 use Rattle.book.specs.declared.Side.{Side}
 use Rattle.book.specs.declared.Entry.{Entry}
-use Rattle.book.proofs.Pads.{live-n, live-of, padded-of, padded-is}
+use Rattle.book.proofs.Pads.{live-n, live-of, padded-of}
 use Rattle.book.proofs.Fits.{fits-is}
-
--- one byte is a number of one byte
-pub one-byte : (at : ℕ) (s : List ℕ) → field at 1 s ≡ getD s at 0
-unfolding field
-one-byte at s = omega arith
 
 pub entry-made : (quantity raw orders side level action price : ℕ) → price ≡ biased raw
     → _≡_ {A = Entry} (record { row = record { price = price; quantity = quantity; orders = orders }; side = side; level = level; action = action }) (entryOf quantity raw orders side level action)

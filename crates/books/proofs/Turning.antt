@@ -2,12 +2,12 @@
 use Prim.Native.Nat.{ℕ, _+_, _-_, _*_, _≤_, _<_}
 use native.Mathlib.Omega.{arith}
 use mathlib.Core.Path.{_≡_, refl, sym, ap, _∙_}
-use mathlib.Core.Bool.{Bool, true, false, cond, not, _&&_}
+use mathlib.Core.Bool.{Bool, true, false, cond, _&&_}
 use mathlib.Core.List.{List, []}
 use mathlib.Core.Logic.{inl, inr}
 use mathlib.Core.Option.{Option, none, some}
 use lib.Dec.{leb}
-use lib.ListN.{length, take, drop, getD, length-drop, take-append-drop, drop-of-length-le}
+use lib.ListN.{length, take, drop, getD, length-drop, take-append-drop}
 use lib.Seq.{take-all}
 use borrow.Author.Needs.{needs}
 use borrow.Author.Tests.{lt-leb, le-leb, lt-ltb}
@@ -22,7 +22,7 @@ use Rattle.slots.proofs.Frame.{taken-fits}
 use Rattle.book.specs.Message.{securityCode, noEntries, entriesFrom, entries, listedCode, listedEntry, listedBook}
 use Rattle.book.specs.Walk.{Book, emptyBook, walk}
 use Rattle.book.specs.Words.{bookOf, wordsOf, sound}
-use Rattle.book.specs.Arrays.{asSide, Padded, bookIn}
+use Rattle.book.specs.Arrays.{Padded, bookIn}
 use Rattle.book.specs.Loading.{Met, met, settled, sideFrom}
 use Rattle.book.specs.declared.Entry.{Entry}
 use Rattle.book.specs.declared.Side.{Side}
