@@ -1,6 +1,6 @@
 #!/usr/bin/env bash
 # Counts x86-64 instructions a message of the library, the plain twin and the tuned one, under qemu-x86_64:
-#   bash rust/bench/count.sh [SLOTS..]     128, 512 and 4096 where none is named; some minutes
+#   bash rust/bench/count.sh [SLOTS..]     128, 512 and 4096 where none is named; about ten minutes
 # The difference of a run of 1,500 messages and one of 300 leaves out all that is no arrival; it repeats to the digit.
 # 'bash rust/build.sh bench' runs it on Arm; elsewhere run it from the repository's root after 'bash rust/build.sh bench --short'.
 set -u
