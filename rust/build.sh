@@ -17,7 +17,7 @@ fail() {
     exit 1
 }
 
-# x86-64: the machine's own compiler, its documentation tests too.
+# x86-64: the machine's own compiler.
 native() {
     command -v rustc >/dev/null 2>&1 || fail "no rustc on this machine"
     rustc=rustc
@@ -67,11 +67,11 @@ over_archive() {
     library mmdh -L "native=$(dirname "$archive")" -l static=screen
 }
 
-# The examples in the documentation, where the machine can run them as they are; the tests have the same ones.
+# The examples in the documentation. To run them under an emulator is an option that rustdoc calls unstable.
 documentation() {
-    [ ${#run[@]} -eq 0 ] || return 0
-    command -v rustdoc >/dev/null 2>&1 || fail "no rustdoc on this machine"
-    rustdoc --test --edition 2021 --crate-name mmdh -L "$out" --extern "mmdh=$out/libmmdh.rlib" rust/mmdh/lib.rs \
+    local doc=(rustdoc)
+    [ ${#run[@]} -eq 0 ] || doc=(env RUSTC_BOOTSTRAP=1 /usr/bin/rustdoc -Z unstable-options --runtool "${run[@]}")
+    "${doc[@]}" --test --edition 2021 --crate-name mmdh "${flags[@]}" -L "$out" --extern "mmdh=$out/libmmdh.rlib" rust/mmdh/lib.rs \
         >"$out/rustdoc.log" 2>&1 || { cat "$out/rustdoc.log" >&2; fail "an example in the documentation failed"; }
     echo "examples in the documentation: $(grep -c '^test .* ok$' "$out/rustdoc.log") ok"
 }
