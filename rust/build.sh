@@ -69,6 +69,7 @@ over_archive() {
 
 # The examples in the documentation. To run them under an emulator is an option that rustdoc calls unstable.
 documentation() {
+    command -v rustdoc >/dev/null 2>&1 || fail "no rustdoc on this machine"
     local doc=(rustdoc)
     [ ${#run[@]} -eq 0 ] || doc=(env RUSTC_BOOTSTRAP=1 /usr/bin/rustdoc -Z unstable-options --runtool "${run[@]}")
     "${doc[@]}" --test --edition 2021 --crate-name mmdh "${flags[@]}" -L "$out" --extern "mmdh=$out/libmmdh.rlib" rust/mmdh/lib.rs \

@@ -39,6 +39,10 @@ for slots in "$@"; do
     library=$(a_message library "$slots")
     plain=$(a_message plain "$slots")
     tuned=$(a_message tuned "$slots")
+    if [ "$library" -le 0 ] || [ "$plain" -le 0 ] || [ "$tuned" -le 0 ]; then
+        echo "count: nothing was counted at $slots slots" >&2
+        exit 1
+    fi
     awk -v s="$slots" -v l="$library" -v p="$plain" -v t="$tuned" \
         'BEGIN { printf "%5d %8d %8d %8d %14.2f %14.2f\n", s, l, p, t, l / p, l / t }'
 done

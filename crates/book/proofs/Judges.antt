@@ -14,7 +14,7 @@ use Rattle.wire.specs.Choice.{all}
 use Rattle.wire.specs.Number.{word32}
 use Rattle.book.specs.Sides.{better, noRow}
 use Rattle.book.specs.Words.{rowOf, rowsFrom, bestFirst, bounded, zeroRow, soundSide, sound}
-use Rattle.book.specs.Loading.{soundRow}
+use Rattle.book.specs.Loading.{soundRow, soundUsed}
 use Rattle.book.specs.declared.Way.{Way}
 use Rattle.book.specs.declared.Way.the-variants.{Bid, Offer}
 use Rattle.book.specs.declared.Row.{Row}
@@ -73,7 +73,7 @@ used-below w i r (y ∷ l) p =
     rw (ne-eqb i 0 (λ z. omega arith), used-below w (i + 1) y l (omega arith)) (mixed (bounded y) (better w (r .price) (y .price)) (all bounded l) (bestFirst w (y ∷ l)))
 
 -- of all used rows
-used-all : (w : Way) (l : List Row) → usedFrom w 0 0 l ≡ (all bounded l && bestFirst w l)
+used-all : (w : Way) (l : List Row) → usedFrom w 0 0 l ≡ soundUsed w l
 unfolding usedFrom soundRow all bestFirst
 used-all w [] = refl
 used-all w (r ∷ l) = rw (used-below w 1 r l (omega arith)) (mixed (bounded r) true (all bounded l) (bestFirst w (r ∷ l)))
@@ -88,7 +88,7 @@ module _ (base n : ℕ) (w : List ℕ) where
   pub record Used (way : Way) (above i : ℕ) : Type 0 where
     pub few : n ≤ 10
     pub room : base + 30 ≤ length w
-    pub same : usedFrom way i above (slice i n (rowsFrom base w)) ≡ (all bounded (take n (rowsFrom base w)) && bestFirst way (take n (rowsFrom base w)))
+    pub same : usedFrom way i above (slice i n (rowsFrom base w)) ≡ soundUsed way (take n (rowsFrom base w))
 
   pub used-starts : (way : Way) → base + 30 ≤ length w → n ≤ 10 → Used way 0 0
   used-starts way h f = record { few = f; room = h; same = used-all way (take n (rowsFrom base w)) }
@@ -98,11 +98,11 @@ module _ (base n : ℕ) (w : List ℕ) where
     unfolding usedFrom
     used-goes y = record { few = p .few; room = p .room; same = rw (next-row n i r h (p .few) e, ← q, y) at (p .same) }
 
-    pub used-stops : b ≡ false → false ≡ (all bounded (take n (rowsFrom base w)) && bestFirst way (take n (rowsFrom base w)))
+    pub used-stops : b ≡ false → false ≡ soundUsed way (take n (rowsFrom base w))
     unfolding usedFrom
     used-stops y = rw (next-row n i r h (p .few) e, ← q, y) at (p .same)
 
-  pub used-ends : (way : Way) (above i : ℕ) → Used way above i → n ≤ i → true ≡ (all bounded (take n (rowsFrom base w)) && bestFirst way (take n (rowsFrom base w)))
+  pub used-ends : (way : Way) (above i : ℕ) → Used way above i → n ≤ i → true ≡ soundUsed way (take n (rowsFrom base w))
   unfolding usedFrom
   used-ends way above i p h = rw (drop-of-length-le (take n (rowsFrom base w)) {i = i} (rw length-take (omega arith))) at (p .same)
 
@@ -132,11 +132,11 @@ pub too-many : (w : Way) (count : ℕ) (rows : List Row) → 10 < count → fals
 unfolding soundSide
 too-many w count rows h = rw (lt-leb count 10 h)
 
-pub used-unsound : (w : Way) (n : ℕ) (rows : List Row) (t : Bool) → n ≤ 10 → t ≡ (all bounded (take n rows) && bestFirst w (take n rows)) → t ≡ false → false ≡ soundSide w n rows
+pub used-unsound : (w : Way) (n : ℕ) (rows : List Row) (t : Bool) → n ≤ 10 → t ≡ soundUsed w (take n rows) → t ≡ false → false ≡ soundSide w n rows
 unfolding soundSide
 used-unsound w n rows t h e y = rw (le-leb n 10 h, and-assoc (all zeroRow (drop n rows)), ← e, y, and-false)
 
-pub both-parts : (w : Way) (n : ℕ) (rows : List Row) (t b : Bool) → n ≤ 10 → t ≡ (all bounded (take n rows) && bestFirst w (take n rows)) → t ≡ true → b ≡ all zeroRow (drop n rows) → b ≡ soundSide w n rows
+pub both-parts : (w : Way) (n : ℕ) (rows : List Row) (t b : Bool) → n ≤ 10 → t ≡ soundUsed w (take n rows) → t ≡ true → b ≡ all zeroRow (drop n rows) → b ≡ soundSide w n rows
 unfolding soundSide
 both-parts w n rows t b h e y q = rw (le-leb n 10 h, and-assoc (all zeroRow (drop n rows)), ← e, y, and-true) q
 

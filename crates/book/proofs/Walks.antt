@@ -102,18 +102,17 @@ rest-all n s =
 -- all entries before the i-th are listed
 pub record Listing (n : ℕ) (s : List ℕ) (i : ℕ) : Type 0 where
   pub upto : i ≤ n
-  pub few : n ≤ 255
   pub room : 24 * n ≤ length s
   pub same : all listedEntry (rest n i s) ≡ all listedEntry (entriesFrom n 0 s)
 
-pub list-starts : (n : ℕ) (s : List ℕ) → (n ≤ 255) × (24 * n ≤ length s) → Listing n s 0
-list-starts n s h = record { upto = omega arith; few = h .0; room = h .1; same = ap (all listedEntry) (rest-all n s) }
+pub list-starts : (n : ℕ) (s : List ℕ) → 24 * n ≤ length s → Listing n s 0
+list-starts n s h = record { upto = omega arith; room = h; same = ap (all listedEntry) (rest-all n s) }
 
 pub list-goes : (n : ℕ) (s : List ℕ) (i : ℕ) (e : Entry) (b : Bool) → Listing n s i → i < n → e ≡ entryAt (24 * i) s → b ≡ listedEntry e → b ≡ true → Listing n s (i + 1)
 unfolding all
 list-goes n s i e b p h q t y =
     let yes : listedEntry (entryAt (24 * i) s) ≡ true = ap listedEntry (sym q) ∙ sym t ∙ y in
-    record { upto = omega arith; few = p .few; room = p .room; same = sym (ap (all listedEntry) (rest-more n i s h) ∙ rw yes) ∙ p .same }
+    record { upto = omega arith; room = p .room; same = sym (ap (all listedEntry) (rest-more n i s h) ∙ rw yes) ∙ p .same }
 
 pub list-stops : (n : ℕ) (s : List ℕ) (i : ℕ) (e : Entry) (b : Bool) → Listing n s i → i < n → e ≡ entryAt (24 * i) s → b ≡ listedEntry e → b ≡ false → false ≡ all listedEntry (entriesFrom n 0 s)
 unfolding all
@@ -175,7 +174,6 @@ module _ (time : ℕ) (e : Entry) (b : Book) where
 -- what is left of the walk from the i-th entry on comes to what all of it does, and the words stay until then
 pub record Walking (time : ℕ) (s : List ℕ) (n : ℕ) (w₀ : List ℕ) (b₀ o₀ : Side) (w : List ℕ) (b o : Side) (i : ℕ) : Type 0 where
   pub upto : i ≤ n
-  pub few : n ≤ 255
   pub room : 24 * n ≤ length s
   pub long : length w ≡ 64
   pub stays : w ≡ w₀
@@ -183,11 +181,10 @@ pub record Walking (time : ℕ) (s : List ℕ) (n : ℕ) (w₀ : List ℕ) (b₀
   pub offers : Padded o
   pub same : walk time (rest n i s) (bookIn b o) ≡ walk time (entriesFrom n 0 s) (bookIn b₀ o₀)
 
-pub walk-starts : (time : ℕ) (s : List ℕ) (n : ℕ) (w : List ℕ) (b o : Side) → (length w ≡ 64) × Padded b × Padded o × (n ≤ 255) × (24 * n ≤ length s) → Walking time s n w b o w b o 0
+pub walk-starts : (time : ℕ) (s : List ℕ) (n : ℕ) (w : List ℕ) (b o : Side) → (length w ≡ 64) × Padded b × Padded o × (24 * n ≤ length s) → Walking time s n w b o w b o 0
 walk-starts time s n w b o p = record {
   upto = omega arith;
-  few = p .3;
-  room = p .4;
+  room = p .3;
   long = p .0;
   stays = refl;
   bids = p .1;
@@ -209,7 +206,7 @@ module _ (time : ℕ) (s : List ℕ) (n : ℕ) (w₀ : List ℕ) (b₀ o₀ : Si
 
   goes : (b′ o′ : Side) → Padded b′ → Padded o′ → onBook time e (bookIn b o) ≡ some (bookIn b′ o′) → Walking time s n w₀ b₀ o₀ w b′ o′ (i + 1)
   unfolding bind
-  goes b′ o′ pb po f = record { upto = omega arith; few = p .few; room = p .room; long = p .long; stays = p .stays; bids = pb; offers = po; same = rw f at one-more }
+  goes b′ o′ pb po f = record { upto = omega arith; room = p .room; long = p .long; stays = p .stays; bids = pb; offers = po; same = rw f at one-more }
 
   stops : (c : ℕ) → onBook time e (bookIn b o) ≡ none → met 16 w ≡ settled c (walk time (entriesFrom n 0 s) (bookIn b₀ o₀)) w₀
   unfolding bind

@@ -24,6 +24,10 @@ sideFrom base n w = record { n = n; rows = rowsFrom base w }
 unfoldable pub soundRow : Way → ℕ → ℕ → Row → Bool
 soundRow w i above r = bounded r && (eqb i 0 || better w above (r .price))
 
+-- the rows that are used: each bounded, and better than the next
+abbrev pub soundUsed : Way → List Row → Bool
+soundUsed w s = all bounded s && bestFirst w s
+
 -- a side by value: at most ten rows, price and orders words below 4,294,967,296, each row better than the next
 pub record SoundRows (w : Way) (s : List Row) : Type 0 where
   pub few : length s ≤ depth

@@ -3,7 +3,7 @@ ghost use mathlib.Core.Path.{_≡_};
 ghost use mathlib.Core.List.{[]};
 ghost use Prim.Native.Nat.{_+_, _-_, _*_, _≤_, _<_, min};
 ghost use lib.ListN.{length, set, take, drop};
-ghost use mathlib.Core.Bool.{true, _&&_, _||_};
+ghost use mathlib.Core.Bool.{true, _||_};
 ghost use lib.Dec.{leb, ltb};
 ghost use Rattle.book.specs.Message.{depth, new, entrySize, entryOf, entryAt, entriesFrom, listedEntry};
 ghost use Rattle.wire.specs.Number.{word32};
@@ -12,8 +12,8 @@ ghost use Rattle.book.specs.Walk.{walk as walkBook};
 ghost use Rattle.book.specs.Sides.{better, noRow, newRows, deleteRows, fits, rowsAfter};
 ghost use Rattle.book.specs.Arrays.{live, asSide, Padded, fitsAt, bookIn};
 ghost use Rattle.slots.specs.Slots.{overlay};
-ghost use Rattle.book.specs.Words.{bookWidth, rowWidth, rowOf, rowWords, rowsFrom, sideWords, wordsOf, bestFirst, bounded, zeroRow, soundSide, sound};
-ghost use Rattle.book.specs.Loading.{sideFrom, soundRow, met, settled};
+ghost use Rattle.book.specs.Words.{bookWidth, rowWidth, rowOf, rowWords, rowsFrom, sideWords, wordsOf, bounded, zeroRow, soundSide, sound};
+ghost use Rattle.book.specs.Loading.{sideFrom, soundRow, soundUsed, met, settled};
 
 // The two sides.
 pub enum Way {
@@ -253,7 +253,7 @@ fn is_listed(e: Entry) -> bool
 
 // Whether all of n entries are listed.
 pub fn all_listed(part: &[u8], n: usize) -> bool
-    requires { ⌜ (n ≤ 255) × (entrySize * n ≤ length (now part)) ⌝ }
+    requires { ⌜ entrySize * n ≤ length (now part) ⌝ }
     ensures { λ r. ⌜ r ≡ all listedEntry (entriesFrom n 0 (now (part .entry))) ⌝ }
 {
     let mut i = 0;
@@ -268,7 +268,7 @@ pub fn all_listed(part: &[u8], n: usize) -> bool
     true
 }
 
-// The row above a rank.
+// The place of the row above a rank; of rank 1, which has none, place 0.
 fn place_above(level: usize) -> usize
     ensures { λ r. ⌜ r ≡ level - 2 ⌝ }
 {
@@ -286,7 +286,7 @@ pub fn walk(
     n: usize,
     time: u64,
 ) -> u64
-    requires { ⌜ (length (now words) ≡ bookWidth) × Padded bids × Padded offers × (n ≤ 255) × (entrySize * n ≤ length (now part)) ⌝ }
+    requires { ⌜ (length (now words) ≡ bookWidth) × Padded bids × Padded offers × (entrySize * n ≤ length (now part)) ⌝ }
     ensures { λ r. ⌜ met r (now (words .exit)) ≡ settled code (walkBook time (entriesFrom n 0 (now (part .entry))) (bookIn bids offers)) (now (words .entry)) ⌝ }
 {
     let mut i = 0;
@@ -374,7 +374,7 @@ pub fn load_side(block: &[u64], base: usize, n: usize) -> Side
         rows[k] = row_at(block, base + 3 * k);
         k += 1;
     }
-    Side { n, rows }
+    Side { rows, n }
 }
 
 // Whether a row is zero.
@@ -416,7 +416,7 @@ fn row_sound(way: Way, i: usize, above: u64, row: Row) -> bool
 // Whether the first n of the ten rows from word `base` on are bounded, and each strictly worse than the one above.
 fn used_sound(block: &[u64], base: usize, n: usize, way: Way) -> bool
     requires { ⌜ (base + 30 ≤ length (now block)) × (n ≤ depth) ⌝ }
-    ensures { λ r. ⌜ r ≡ (all bounded (take n (rowsFrom base (now (block .entry)))) && bestFirst way (take n (rowsFrom base (now (block .entry))))) ⌝ }
+    ensures { λ r. ⌜ r ≡ soundUsed way (take n (rowsFrom base (now (block .entry)))) ⌝ }
 {
     let mut above = 0;
     let mut i = 0;
@@ -502,7 +502,7 @@ fn write_side(block: &mut [u64], base: usize, side: Side)
 }
 
 // A book written to its words: code, counts, zero, bids, offers.
-pub fn write_book(block: &mut [u64], code: u64, bids: Side, offers: Side)
+fn write_book(block: &mut [u64], code: u64, bids: Side, offers: Side)
     requires { ⌜ (length (now block) ≡ bookWidth) × Padded bids × Padded offers ⌝ }
     ensures { λ _. ⌜ now (block .exit) ≡ wordsOf code (bookIn bids offers) ⌝ }
 {

@@ -46,7 +46,7 @@ fn side_in(words: &[u64], base: usize, n: u64, own: bool) -> Side
 
 // A slot's words after n entries: 18 where it is a code's own and its book is not sound.
 fn in_words(words: &mut [u64], own: bool, code: u64, part: &[u8], n: usize, time: u64) -> u64
-    requires { ⌜ (length (now words) ≡ 64) × (n ≤ 255) × (entrySize * n ≤ length (now part)) ⌝ }
+    requires { ⌜ (length (now words) ≡ 64) × (entrySize * n ≤ length (now part)) ⌝ }
     ensures { λ r. ⌜ met r (now (words .exit)) ≡ slotMet own code time (entriesFrom n 0 (now (part .entry))) (now (words .entry)) ⌝ }
 {
     if is_ready(words, own) {
@@ -67,7 +67,7 @@ fn in_slot(
     n: usize,
     time: u64,
 ) -> u64
-    requires { ⌜ (k < slotCount 64 (length (now table))) × (n ≤ 255) × (entrySize * n ≤ length (now part)) ⌝ }
+    requires { ⌜ (k < slotCount 64 (length (now table))) × (entrySize * n ≤ length (now part)) ⌝ }
     ensures { λ r. ⌜ met r (now (table .exit)) ≡ within k (now (table .entry)) (slotMet own code time (entriesFrom n 0 (now (part .entry))) (blockOf k (now (table .entry)))) ⌝ }
 {
     let a = 64 * k;
@@ -77,7 +77,7 @@ fn in_slot(
 
 // The table after n entries for a code: in the lowest slot with the code, else the lowest free one, else 17.
 fn placed(table: &mut [u64], code: u64, part: &[u8], n: usize, time: u64) -> u64
-    requires { ⌜ (n ≤ 255) × (entrySize * n ≤ length (now part)) ⌝ }
+    requires { ⌜ entrySize * n ≤ length (now part) ⌝ }
     ensures { λ r. ⌜ met r (now (table .exit)) ≡ placeMet (placeIn code (now (table .entry))) code time (entriesFrom n 0 (now (part .entry))) (now (table .entry)) ⌝ }
 {
     let slot = slots::find(table, 64, code);

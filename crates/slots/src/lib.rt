@@ -11,7 +11,7 @@ pub enum Slot {
 }
 
 // How many slots a table of `len` words has.
-pub fn count(len: usize, width: usize) -> usize
+fn count(len: usize, width: usize) -> usize
     requires { ⌜ 0 < width ⌝ }
     ensures { λ r. ⌜ r ≡ slotCount width len ⌝ }
 {
@@ -20,7 +20,7 @@ pub fn count(len: usize, width: usize) -> usize
 }
 
 // The lowest slot with the code, or how many slots there are.
-pub fn seek(table: &[u64], width: usize, code: u64) -> usize
+fn seek(table: &[u64], width: usize, code: u64) -> usize
     requires { ⌜ 0 < width ⌝ }
     ensures { λ r. ⌜ r ≡ lowest code (slotsOf width (now (table .entry))) ⌝ }
 {
