@@ -2,7 +2,7 @@
 use Prim.Native.Nat.{ℕ, _+_, _-_, _*_, _≤_, _<_}
 use native.Mathlib.Omega.{arith}
 use mathlib.Core.Path.{_≡_, refl, sym, ap, _∙_}
-use mathlib.Core.Bool.{Bool, true, false, cond, _&&_}
+use mathlib.Core.Bool.{Bool, true, false, cond}
 use mathlib.Core.List.{List, []}
 use mathlib.Core.Logic.{inl, inr}
 use mathlib.Core.Option.{Option, none, some}
@@ -119,18 +119,18 @@ put-same : (k : ℕ) (t : List ℕ) → k < slotCount 64 (length t) → put 64 k
 put-same k t h =
     rw (block-at 64 (slotCount 64 (length t)) k t h, take-append-drop 64 (drop (64 * k) t), take-append-drop (64 * k) t)
 
--- the same by the slot, where all is listed and there are entries
-module _ (time : ℕ) (m t : List ℕ) (l : listedBook m ≡ true) (n : hasEntries m ≡ true) where
+-- the same by the slot, where there are entries
+module _ (time : ℕ) (m t : List ℕ) (n : hasEntries m ≡ true) where
   settled-is : (k : ℕ) → k < slotCount 64 (length t) → (p : Slot) → (b : Book) → (r : Option Book) → placeIn (securityCode m) t ≡ p → bookAt p t ≡ b → walk time (entries m) b ≡ r
       → unsoundAt p t ≡ false → noneFree p ≡ false → ((x : Book) → written p (securityCode m) (some x) t ≡ put 64 k (wordsOf (securityCode m) x) t)
       → within k t (settled (securityCode m) r (block k t)) ≡ bookTurn time m t
   unfolding bookAnswer booksAfter unsound noSlot misfits misfit first
-  settled-is k h p b none e eb ew s f w = rw (l, n, e, s, f, eb, ew) (ap (met 16) (put-same k t h))
-  settled-is k h p b (some x) e eb ew s f w = rw (l, n, e, s, f, eb, ew) (sym (ap (met 0) (w x)))
+  settled-is k h p b none e eb ew s f w = rw (n, e, s, f, eb, ew) (ap (met 16) (put-same k t h))
+  settled-is k h p b (some x) e eb ew s f w = rw (n, e, s, f, eb, ew) (sym (ap (met 0) (w x)))
 
   unsound-is : (k : ℕ) → k < slotCount 64 (length t) → placeIn (securityCode m) t ≡ Held k → sound (block k t) ≡ false → within k t (met 18 (block k t)) ≡ bookTurn time m t
   unfolding bookAnswer unsound unsoundAt first
-  unsound-is k h e y = rw (l, n, e, y) (ap (met 18) (put-same k t h))
+  unsound-is k h e y = rw (n, e, y) (ap (met 18) (put-same k t h))
 
   held-is : (k : ℕ) → k < slotCount 64 (length t) → placeIn (securityCode m) t ≡ Held k → (y : Bool) → sound (block k t) ≡ y
       → within k t (cond y (settled (securityCode m) (walk time (entries m) (bookOf (block k t))) (block k t)) (met 18 (block k t))) ≡ bookTurn time m t
@@ -144,7 +144,7 @@ module _ (time : ℕ) (m t : List ℕ) (l : listedBook m ≡ true) (n : hasEntri
 
   full-is : placeIn (securityCode m) t ≡ Full → met 17 t ≡ bookTurn time m t
   unfolding bookAnswer unsound noSlot unsoundAt noneFree first
-  full-is e = rw (l, n, e)
+  full-is e = rw (n, e)
 
   placed-at : (p : Slot) → placeIn (securityCode m) t ≡ p → placeMet p (securityCode m) time (entries m) t ≡ bookTurn time m t
   unfolding placeMet slotMet
@@ -156,36 +156,31 @@ module _ (time : ℕ) (m t : List ℕ) (l : listedBook m ≡ true) (n : hasEntri
 abbrev partOf : List ℕ → List ℕ
 partOf m = take (length m - 12) (drop 12 m)
 
-module _ (time : ℕ) (m t : List ℕ) (c : ℕ) (a : Bool) (ec : c ≡ field 4 4 m) (ea : a ≡ listedCode c) where
-  pub bad-code : a ≡ false → met 15 t ≡ bookTurn time m t
-  unfolding bookAnswer listedBook first
+-- a book message is listed where its code is and all its entries are
+module _ (m : List ℕ) (c : ℕ) (a : Bool) (ec : c ≡ field 4 4 m) (ea : a ≡ listedCode c) where
+  pub bad-code : a ≡ false → false ≡ listedBook m
+  unfolding listedBook
   bad-code n =
       let f : listedCode (field 4 4 m) ≡ false = ap listedCode (sym ec) ∙ sym ea ∙ n in
       rw f
 
-  -- a book message is listed where its code is and all its entries are
-  module _ (k : ℕ) (b : Bool) (ek : k ≡ field 11 1 m) (h : length m ≡ 12 + 24 * noEntries m) (eb : b ≡ all listedEntry (entriesFrom k 0 (partOf m))) where
-    part-drop : partOf m ≡ drop 12 m
-    part-drop = long-part m (omega (arith, h))
+  pub good-code : (k : ℕ) (b : Bool) → a ≡ true → k ≡ field 11 1 m → length m ≡ 12 + 24 * noEntries m → b ≡ all listedEntry (entriesFrom k 0 (partOf m)) → b ≡ listedBook m
+  unfolding listedBook
+  good-code k b y ek h eb = rw (← ek, ← ec, ← long-part m (omega (arith, h)), ← ea, y) eb
 
-    listed-is : listedBook m ≡ (a && b)
-    unfolding listedBook
-    listed-is = rw (← ek, ← ec, ← part-drop, ← ea, ← eb)
+-- with no entries, and with some
+module _ (time : ℕ) (m t : List ℕ) (k : ℕ) (ek : k ≡ field 11 1 m) where
+  pub no-entries : k ≡ 0 → met 0 t ≡ bookTurn time m t
+  unfolding bookAnswer booksAfter unsound noSlot misfits first
+  no-entries e =
+      let n : noEntries m ≡ 0 = sym ek ∙ e in
+      rw n
 
-    pub bad-entry : a ≡ true → b ≡ false → met 15 t ≡ bookTurn time m t
-    unfolding bookAnswer first
-    bad-entry y n = rw (listed-is, y, n)
-
-    pub no-entries : a ≡ true → b ≡ true → k ≡ 0 → met 0 t ≡ bookTurn time m t
-    unfolding bookAnswer booksAfter unsound noSlot misfits first
-    no-entries y z e =
-        let n : noEntries m ≡ 0 = sym ek ∙ e in
-        rw (listed-is, y, z, n)
-
-    pub placed-turn : (r : ℕ) (u : List ℕ) → met r u ≡ placeMet (placeIn c t) c time (entriesFrom k 0 (partOf m)) t → a ≡ true → b ≡ true → (k ≡ 0 → ⊥) → met r u ≡ bookTurn time m t
-    placed-turn r u q y z nz =
-        let more : hasEntries m ≡ true = lt-ltb 0 (noEntries m) (omega (arith, ek, nz)) in
-        (rw (ec, ek, part-drop) at q) ∙ placed-at time m t (listed-is ∙ rw (y, z)) more (placeIn (securityCode m) t) refl
+  pub placed-turn : (c r : ℕ) (u : List ℕ) → c ≡ field 4 4 m → length m ≡ 12 + 24 * noEntries m → met r u ≡ placeMet (placeIn c t) c time (entriesFrom k 0 (partOf m)) t
+      → (k ≡ 0 → ⊥) → met r u ≡ bookTurn time m t
+  placed-turn c r u ec h q nz =
+      let more : hasEntries m ≡ true = lt-ltb 0 (noEntries m) (omega (arith, ek, nz)) in
+      (rw (ec, ek, long-part m (omega (arith, h))) at q) ∙ placed-at time m t more (placeIn (securityCode m) t) refl
 
 pub ruleset turning = (
   needs,
@@ -206,7 +201,7 @@ pub ruleset turning = (
   free-slot-met,
   full-met,
   bad-code,
-  bad-entry,
+  good-code,
   no-entries,
   placed-turn,
 )

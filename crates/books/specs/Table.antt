@@ -9,7 +9,7 @@ use Rattle.wire.specs.Choice.{first}
 use Rattle.slots.specs.Slots.{slotsOf, place, put}
 use Rattle.slots.specs.declared.Slot.{Slot}
 use Rattle.slots.specs.declared.Slot.the-variants.{Held, Free, Full}
-use Rattle.book.specs.Message.{securityCode, noEntries, listedBook}
+use Rattle.book.specs.Message.{securityCode, noEntries}
 use Rattle.book.specs.Walk.{Book, emptyBook, bookAfter}
 use Rattle.book.specs.Words.{bookWidth, bookOf, wordsOf, sound}
 
@@ -61,12 +61,11 @@ noSlot m t = hasEntries m && noneFree (placeIn (securityCode m) t)
 unfoldable pub misfits : ℕ → List ℕ → List ℕ → Bool
 misfits time m t = hasEntries m && misfit (bookMet time m t)
 
--- what a book message is answered on a table by itself: 15, 18, 17, 16 or 0, in that order
+-- what a book message is answered on a table by itself: 18, 17, 16 or 0, in that order
 unfoldable pub bookAnswer : ℕ → List ℕ → List ℕ → ℕ
 bookAnswer time m t =
     first
-    ((not (listedBook m), 15)
-    ∷ (unsound m t, 18)
+    ((unsound m t, 18)
     ∷ (noSlot m t, 17)
     ∷ (misfits time m t, 16)
     ∷ [])

@@ -4,7 +4,7 @@ ghost use mathlib.Core.Bool.{_&&_};
 ghost use Prim.Native.Nat.{_+_, _-_, _*_, _<_, _≤_};
 ghost use lib.ListN.{length, drop};
 ghost use Rattle.slots.specs.Slots.{slotCount};
-ghost use Rattle.book.specs.Message.{noEntries, entriesAt, entrySize, entriesFrom, listedCode, listedSide, listedRank};
+ghost use Rattle.book.specs.Message.{noEntries, entriesAt, entrySize, entriesFrom, listedCode, listedBook, listedSide, listedRank};
 ghost use Rattle.book.specs.Words.{rowOf};
 ghost use Rattle.wire.specs.Number.{word32};
 ghost use Rattle.book.specs.Loading.{met};
@@ -98,24 +98,31 @@ fn is_code(code: u64) -> bool
     code <= 99999
 }
 
-// A book message of the right size on the table: 15, 18, 17, 16 or 0, in that order; only with 0 is anything written.
+// Whether the code and all entries of a book message of the right size are listed.
+pub fn is_listed(m: &[u8]) -> bool
+    requires { ⌜ length (now m) ≡ entriesAt + entrySize * noEntries (now m) ⌝ }
+    ensures { λ r. ⌜ r ≡ listedBook (now (m .entry)) ⌝ }
+{
+    if is_code(wire::u32_in(m, 4)) {
+        let n = wire::u8_in(m, 11) as usize;
+        let part = &m[12..];
+        return book::all_listed(part, n);
+    }
+    false
+}
+
+// A book message of the right size on the table: 18, 17, 16 or 0, in that order; only with 0 is anything written.
 pub fn take(table: &mut [u64], m: &[u8], time: u64) -> u64
     requires { ⌜ length (now m) ≡ entriesAt + entrySize * noEntries (now m) ⌝ }
     ensures { λ r. ⌜ met r (now (table .exit)) ≡ bookTurn time (now (m .entry)) (now (table .entry)) ⌝ }
 {
-    let code = wire::u32_in(m, 4);
     let n = wire::u8_in(m, 11) as usize;
-    let part = &m[12..];
-    if is_code(code) {
-        if book::all_listed(part, n) {
-            if n == 0 {
-                return 0;
-            }
-            return placed(table, code, part, n, time);
-        }
-        return 15;
+    if n == 0 {
+        return 0;
     }
-    15
+    let code = wire::u32_in(m, 4);
+    let part = &m[12..];
+    placed(table, code, part, n, time)
 }
 
 // What reading a row gives with any answer but 0.

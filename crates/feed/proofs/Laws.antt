@@ -1,26 +1,58 @@
 -- Laws of the feed that later work needs. Assumes nothing.
 use Prim.Native.Nat.{ℕ, _≤_, zero-le}
-use mathlib.Core.Path.{_≡_, refl, ap}
-use mathlib.Core.Bool.{Bool, true, false, cond}
+use mathlib.Core.Path.{_≡_, refl, ap, sym, _∙_}
+use mathlib.Core.Bool.{Bool, true, false, cond, not}
 use mathlib.Core.List.{List}
 use lib.ListN.{length}
-use Rattle.wire.specs.Choice.{pick}
+use lib.Dec.{T, eqb}
+use Rattle.wire.specs.Choice.{pick, first, all}
 use Rattle.wire.specs.Units.{unitOf}
 use Rattle.wire.specs.declared.Unit.{Unit}
 use Rattle.wire.specs.declared.Unit.the-variants as unit
+use Rattle.wire.proofs.Choices.{first-fails, first-settles, first-append, first-none}
 use Rattle.wire.proofs.Fronts.{unit-fits, message-length, heartbeat-fits}
 use Rattle.feed.specs.Feeds.{phaseNo, phaseOf, badge, badgeNo, badgeOf, plainBadge}
-use Rattle.feed.specs.Events.{State, Event, Arrive, cutFrom, news, newsSize, offered}
-use Rattle.feed.specs.Answers.{reply, number}
-use Rattle.feed.specs.Steps.{accepted, usedOf, handed, outcome, outcomeFrom}
+use Rattle.feed.specs.Events.{Tables, State, Event, Arrive, timeOf, cutFrom, news, newsSize, offered}
+use Rattle.feed.specs.Answers.{number, lineTests, tableTests, tests, reply, verdict}
+use Rattle.feed.specs.Steps.{accepted, usedOf, stateOf, handed, outcome, onTables}
 use Rattle.feed.specs.declared.Phase.{Phase}
 use Rattle.feed.specs.declared.Phase.the-variants.{Idle, WaitKey, WaitLogon, Refreshing, Live, Lost, Closed}
 use Rattle.feed.specs.declared.Feed.{Feed}
+use Rattle.feed.specs.declared.Answer.{Answer}
+use Rattle.feed.specs.declared.Answer.the-variants.{Keep, Lose, Spoil, Skip, Take}
 
--- the table of answers from its first row on is the whole of it
-pub whole-table : (s : State) (e : Event) → outcome s e ≡ outcomeFrom 0 s e
-unfolding outcome outcomeFrom
-whole-table s e = refl
+-- an answer with a number; one that leaves the last word to the tables
+abbrev pub numbered : ℕ → Answer → Bool
+numbered k a = eqb (number a) k
+
+unfoldable pub isTake : Answer → Bool
+isTake (Keep n) = false
+isTake (Lose n) = false
+isTake (Spoil n) = false
+isTake (Skip n) = false
+isTake (Take n) = true
+
+-- the feed's verdict is the answer, whatever the tables, unless it leaves the answer to them
+module _ (f : Feed) (x : Tables) (e : Event) (a : Answer) (v : a ≡ verdict f (timeOf e) (news e)) where
+  abbrev own : List (Bool × Answer)
+  own = lineTests f (timeOf e) (news e)
+
+  abbrev theirs : Answer
+  theirs = first (tableTests x (timeOf e) (news e)) (Take 0)
+
+  in-parts : reply (stateOf f x) e ≡ first own theirs
+  unfolding tests
+  in-parts = first-append own (tableTests x (timeOf e) (news e)) (Take 0)
+
+  pub alone : T (not (isTake a)) → outcome (stateOf f x) e ≡ handed a (stateOf f x) e
+  unfolding outcome isTake
+  alone h =
+      ap (λ (b : Answer). handed b (stateOf f x) e)
+      (in-parts ∙ first-settles (λ (b : Answer). not (isTake b)) own (Take 0) theirs (rw (← v) h) refl ∙ sym v)
+
+  pub left : T (isTake a) → outcome (stateOf f x) e ≡ onTables (stateOf f x) e
+  unfolding outcome onTables lineTests all isTake
+  left h = ap (λ (b : Answer). handed b (stateOf f x) e) (in-parts ∙ first-none own theirs (first-fails isTake own (Take 0) (rw (← v) h) tt))
 
 -- what stands at the front of bytes is within them
 unit-size : (s : List ℕ) (u : Unit) → unitOf s ≡ u → newsSize (cutFrom s u) ≤ length s

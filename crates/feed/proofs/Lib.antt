@@ -1,3 +1,3 @@
 pub mod Parts
-pub mod Rows
 pub mod Laws
+pub mod Rows

@@ -1,6 +1,6 @@
 -- What the small functions ask: phases, the badge, what a message is, its size and status, and the feed with one thing changed. Assumes nothing.
 use Prim.Native.Nat.{ℕ, _+_, _-_, _*_, _≤_, _<_}
-use mathlib.Core.Path.{_≡_, refl, ap, sym, _∙_}
+use mathlib.Core.Path.{_≡_, refl, sym, _∙_}
 use mathlib.Core.Bool.{Bool, true, false, cond, not, _&&_, _||_, or-false}
 use mathlib.Core.List.{List, [], _∷_}
 use native.Mathlib.Decide.{decLe}
@@ -12,13 +12,12 @@ use borrow.Author.Tests.{lt-ltb, le-ltb, le-leb, lt-leb, eq-eqb, ne-eqb, eqb-tru
 use Rattle.wire.proofs.Bools.{both}
 use Rattle.wire.specs.Choice.{oneOf, pick, first}
 use Rattle.wire.specs.Number.{field}
-use Rattle.slots.specs.Slots as slots
-use Rattle.book.specs.Message.{bookSized}
+use Rattle.book.specs.Message.{bookSized, listedBook}
 use Rattle.feed.specs.Messages.{datumOf, kindOf, market, onMarket, sized, wrongSize, statusOf, listedStatus, listed}
 use Rattle.feed.specs.Feeds.{phaseNo, is, deaf, inPhase, internalIs, wholeIs, listedLimit, newFeed, newGiven, colour, badgeNo, badge, phaseOf, plainBadge}
-use Rattle.feed.specs.Events.{Linked}
+use Rattle.feed.specs.Events.{Tables, Linked}
 use Rattle.feed.specs.Answers.{lacksNeed, allowed, seen, refusal}
-use Rattle.feed.specs.Steps.{cleared, enterLive, loggedOn, onFeed, advanced, counted, accepted, stateOf, answered, usedIs}
+use Rattle.feed.specs.Steps.{cleared, enterLive, loggedOn, onFeed, clearsOn, clears, clearedIf, advanced, counted, accepted, stateOf, answered, usedIs}
 use Rattle.feed.specs.declared.Phase.{Phase}
 use Rattle.feed.specs.declared.Phase.the-variants.{Idle, Refreshing, Live, Lost, Closed}
 use Rattle.feed.specs.declared.Kind.{Kind}
@@ -119,12 +118,8 @@ pub kind-read : (m : List ℕ) (t : ℕ) (k : Kind) → t ≡ field 2 2 m → k 
 kind-read m t k e f = rw e at f
 
 -- the kind that an arm knows
-module _ (m : List ℕ) where
-  pub kind-by : (k j : Kind) → k ≡ kindOf (field 2 2 m) → k ≡ j → j ≡ kindOf (field 2 2 m)
-  kind-by k j a e = sym e ∙ a
-
-  pub datum-by : (d e : Datum) → Market d ≡ kindOf (field 2 2 m) → d ≡ e → Market e ≡ kindOf (field 2 2 m)
-  datum-by d e a f = rw f at a
+pub kind-by : (m : List ℕ) (k j : Kind) → k ≡ kindOf (field 2 2 m) → k ≡ j → j ≡ kindOf (field 2 2 m)
+kind-by m k j a e = sym e ∙ a
 
 -- sizes
 pub book-short : (m : List ℕ) → length m < 12 → false ≡ bookSized m
@@ -160,12 +155,12 @@ last-holds a true e = refl
 last-holds true false e = sym e
 last-holds false false e = sym e
 
-pub book-right : (m : List ℕ) → Market Book ≡ kindOf (field 2 2 m) → wrongSize m ≡ false → length m ≡ 12 + 24 * field 11 1 m
+pub book-right : (m : List ℕ) (k : Kind) (d : Datum) → k ≡ kindOf (field 2 2 m) → wrongSize m ≡ false → k ≡ Market d → d ≡ Book → length m ≡ 12 + 24 * field 11 1 m
 unfolding wrongSize sized bookSized
-book-right m k e =
+book-right m k d a e g h =
     eqb-true (length m) (12 + 24 * field 11 1 m)
     (both (leb 12 (length m)) (eqb (length m) (12 + 24 * field 11 1 m))
-    (last-holds (ltb (length m) 4 || not (eqb (field 0 2 m) (length m))) (bookSized m) (rw (← k) at e)) .1)
+    (last-holds (ltb (length m) 4 || not (eqb (field 0 2 m) (length m))) (bookSized m) (rw (← a, g, h) at e)) .1)
 
 -- what is allowed and seen
 pub in-refreshing : (p : Phase) (i : ℕ) → p ≡ Refreshing → eqb i 0 ≡ allowed (Market Other) p i
@@ -230,6 +225,18 @@ module _ (s : session.Session) (m : List ℕ) (n : ℕ) where
   pub refresh-listed : s ≡ Refresh → n ≡ field 4 1 m → eqb n 0 ≡ listed (Session s) m
   unfolding listed
   refresh-listed e f = rw (e, f)
+
+module _ (k : Kind) (m : List ℕ) where
+  pub listed-session : (s : session.Session) (b : Bool) → k ≡ Session s → b ≡ listed (Session s) m → b ≡ listed k m
+  listed-session s b e f = rw e f
+
+  pub listed-market : (d : Datum) (b : Bool) → k ≡ Market d → d ≡ Book → b ≡ listedBook m → b ≡ listed k m
+  unfolding listed
+  listed-market d b e f g = rw (e, f) g
+
+  pub listed-other : (d : Datum) → k ≡ Market d → d ≡ Other → true ≡ listed k m
+  unfolding listed
+  listed-other d e f = rw (e, f)
 
 pub market-sized-by : (d e : Datum) (b : Bool) (m : List ℕ) → d ≡ e → b ≡ sized (Market e) m → b ≡ sized (Market d) m
 market-sized-by d e b m g f = rw g f
@@ -297,8 +304,14 @@ module _ (f x : Feed) (i n : ℕ) (b : Bool) (e : x ≡ advanced n f) (g : b ≡
   unfolding counted market onMarket
   numbered-not h = rw (← g, h, e)
 
-pub cleared-is : (f : Feed) (t u : List ℕ) → u ≡ slots.cleared 64 t → stateOf (internalIs 0 (wholeIs false f)) u ≡ cleared (stateOf f t)
-cleared-is f t u e = rw e
+module _ (f : Feed) (n i : ℕ) (g : Given) where
+  pub market-taken : (a : ℕ) (x : Feed) → a ≤ 2 → x ≡ advanced n (counted (Market Other) i f) → g ≡ answered a x
+      → g ≡ answered a (cond (accepted a) (advanced n (counted (Market Other) i f)) (inPhase Lost (wholeIs false f)))
+  market-taken a x h e l = rw (le-leb a 2 h, ← e) l
+
+  pub market-spoilt : (a : ℕ) → 2 < a → g ≡ answered a (inPhase Lost (wholeIs false f))
+      → g ≡ answered a (cond (accepted a) (advanced n (counted (Market Other) i f)) (inPhase Lost (wholeIs false f)))
+  market-spoilt a h l = rw (lt-leb a 2 h) l
 
 -- a new feed, and the need of resuming
 pub new-taken : (l : ℕ) (b : Bool) (x : Feed) (g : Given) → b ≡ listedLimit l → b ≡ true → x ≡ newFeed l → g ≡ answered 0 x → g ≡ newGiven l
@@ -329,50 +342,55 @@ module _ (f : Feed) (l : Link) where
   unfolding lacksNeed
   torn-needs e g = rw (e, g)
 
--- logons
-module _ (f : Feed) (t : List ℕ) where
-  pub opened-fresh : (x y : Feed) (u : List ℕ) → f .fresh ≡ true → stateOf x u ≡ cleared (stateOf f t) → y ≡ enterLive x → stateOf y u ≡ loggedOn Opens (stateOf f t)
-  unfolding loggedOn
-  opened-fresh x y u a e g =
-      let q : onFeed enterLive (cleared (stateOf f t)) ≡ loggedOn Opens (stateOf f t) = rw a in
-      rw g (ap (onFeed enterLive) e ∙ q)
+-- logons, with any tables
+module _ (f : Feed) (s : Status) (x : Tables) where
+  pub opened-fresh : (g y : Feed) → s ≡ Opens → f .fresh ≡ true → g ≡ internalIs 0 (wholeIs false f) → y ≡ enterLive g
+      → stateOf y (clearedIf (clearsOn s (f .fresh)) x) ≡ loggedOn s (stateOf f x)
+  unfolding loggedOn clearsOn
+  opened-fresh g y e a h l = rw (e, l, h, a)
 
-  pub opened-resumed : (x : Feed) → f .fresh ≡ false → x ≡ enterLive f → stateOf x t ≡ loggedOn Opens (stateOf f t)
-  unfolding loggedOn
-  opened-resumed x a e = rw (e, a)
+  pub opened-resumed : (y : Feed) → s ≡ Opens → f .fresh ≡ false → y ≡ enterLive f → stateOf y (clearedIf (clearsOn s (f .fresh)) x) ≡ loggedOn s (stateOf f x)
+  unfolding loggedOn clearsOn
+  opened-resumed y e a l = rw (e, l, a)
 
-  pub refilled-is : (x y : Feed) (u : List ℕ) → stateOf x u ≡ cleared (stateOf f t) → y ≡ inPhase Refreshing x → stateOf y u ≡ loggedOn Refills (stateOf f t)
-  unfolding loggedOn
-  refilled-is x y u e g = rw g (ap (onFeed (inPhase Refreshing)) e)
+  pub logged-refills : (g y : Feed) → s ≡ Refills → g ≡ internalIs 0 (wholeIs false f) → y ≡ inPhase Refreshing g
+      → stateOf y (clearedIf (clearsOn s (f .fresh)) x) ≡ loggedOn s (stateOf f x)
+  unfolding loggedOn clearsOn
+  logged-refills g y e h l = rw (e, l, h)
 
-  module _ (s : Status) where
-    pub logged-by : (x : Feed) (u : List ℕ) (r : Status) → s ≡ r → stateOf x u ≡ loggedOn r (stateOf f t) → stateOf x u ≡ loggedOn s (stateOf f t)
-    logged-by x u r e h = rw e h
+  pub logged-stays : s ≡ Stays → stateOf f (clearedIf (clearsOn s (f .fresh)) x) ≡ loggedOn s (stateOf f x)
+  unfolding loggedOn clearsOn
+  logged-stays e = rw e
 
-    pub logged-stays : s ≡ Stays → stateOf f t ≡ loggedOn s (stateOf f t)
-    unfolding loggedOn
-    logged-stays e = rw e
+  pub logged-closes : (y : Feed) → s ≡ Closes → y ≡ inPhase Closed f → stateOf y (clearedIf (clearsOn s (f .fresh)) x) ≡ loggedOn s (stateOf f x)
+  unfolding loggedOn clearsOn
+  logged-closes y e l = rw (e, l)
 
-    pub logged-closes : (x : Feed) → s ≡ Closes → x ≡ inPhase Closed f → stateOf x t ≡ loggedOn s (stateOf f t)
-    unfolding loggedOn
-    logged-closes x e g = rw (e, g)
-
-    pub logged-unlisted : s ≡ Unlisted → stateOf f t ≡ loggedOn s (stateOf f t)
-    unfolding loggedOn
-    logged-unlisted e = rw e
+  pub logged-unlisted : s ≡ Unlisted → stateOf f (clearedIf (clearsOn s (f .fresh)) x) ≡ loggedOn s (stateOf f x)
+  unfolding loggedOn clearsOn
+  logged-unlisted e = rw e
 
 -- a logon does the same before and after the number advances
-pub logon-later : (s : Status) (n : ℕ) (f : Feed) (t : List ℕ) → loggedOn s (stateOf (advanced n f) t) ≡ onFeed (advanced n) (loggedOn s (stateOf f t))
+pub logon-later : (s : Status) (n : ℕ) (f : Feed) (x : Tables) → loggedOn s (stateOf (advanced n f) x) ≡ onFeed (advanced n) (loggedOn s (stateOf f x))
 unfolding loggedOn
-logon-later Opens n f t = go (f .fresh)
+logon-later Opens n f x = go (f .fresh)
   where
-    go : (b : Bool) → onFeed enterLive (cond b (cleared (stateOf (advanced n f) t)) (stateOf (advanced n f) t)) ≡ onFeed (advanced n) (onFeed enterLive (cond b (cleared (stateOf f t)) (stateOf f t)))
+    go : (b : Bool) → onFeed enterLive (cond b (cleared (stateOf (advanced n f) x)) (stateOf (advanced n f) x)) ≡ onFeed (advanced n) (onFeed enterLive (cond b (cleared (stateOf f x)) (stateOf f x)))
     go true = refl
     go false = refl
-logon-later Refills n f t = refl
-logon-later Stays n f t = refl
-logon-later Closes n f t = refl
-logon-later Unlisted n f t = refl
+logon-later Refills n f x = refl
+logon-later Stays n f x = refl
+logon-later Closes n f x = refl
+logon-later Unlisted n f x = refl
+
+-- what clears
+module _ (f : Feed) (m : List ℕ) (s : session.Session) (b : Bool) where
+  pub session-clears-by : (j : session.Session) → s ≡ j → b ≡ clears j m f → b ≡ clears s m f
+  session-clears-by j e h = rw e h
+
+  pub logon-clears : (n : ℕ) (r : Status) → s ≡ Logon → n ≡ field 6 1 m → r ≡ statusOf n → b ≡ clearsOn r (f .fresh) → b ≡ clears s m f
+  unfolding clears
+  logon-clears n r e g h l = rw (e, ← g, ← h) l
 
 pub ruleset parts = (
   needs,
@@ -395,7 +413,6 @@ pub ruleset parts = (
   is-market,
   kind-read,
   kind-by,
-  datum-by,
   book-short,
   book-long,
   sized-by,
@@ -411,6 +428,9 @@ pub ruleset parts = (
   logon-listed,
   logout-listed,
   refresh-listed,
+  listed-session,
+  listed-market,
+  listed-other,
   not-live,
   seen-session,
   seen-market,
@@ -429,7 +449,8 @@ pub ruleset parts = (
   completed-is,
   numbered-live,
   numbered-not,
-  cleared-is,
+  market-taken,
+  market-spoilt,
   new-taken,
   new-refused,
   fresh-needs,
@@ -437,9 +458,9 @@ pub ruleset parts = (
   torn-needs,
   opened-fresh,
   opened-resumed,
-  refilled-is,
-  logged-by,
+  logged-refills,
   logged-stays,
   logged-closes,
   logged-unlisted,
+  logon-clears,
 )

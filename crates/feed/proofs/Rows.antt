@@ -1,33 +1,34 @@
 -- What each stage of an arrival and a connect ask: the rows of the table of answers, one after the other. Assumes nothing.
 use Prim.Native.Nat.{ℕ, _+_, _≤_, _<_, _^_}
-use mathlib.Core.Path.{_≡_, refl, ap, sym, _∙_}
+use mathlib.Core.Path.{_≡_, refl, ap, sym, subst, _∙_}
 use mathlib.Core.Bool.{Bool, true, false, cond, not}
 use mathlib.Core.List.{List, [], _∷_}
 use native.Mathlib.Omega.{arith}
-use lib.Dec.{ltb, leb, eqb}
-use lib.ListN.{length, drop}
+use lib.Dec.{T, ltb, leb, eqb}
+use lib.ListN.{length}
 use mir.Syntax.{w64}
 use mir.Val.{Fits}
 use types.Run
 use denote.Enum.Declared
-use borrow.Author.Tests.{lt-ltb, le-ltb, le-leb, eq-eqb, ne-eqb}
+use borrow.Author.Tests.{lt-ltb, le-ltb, le-leb, lt-leb, leb-true, eq-eqb, ne-eqb, eqb-true, not-false}
 use Rattle.wire.specs.Choice.{first}
 use Rattle.wire.specs.Number.{field}
 use Rattle.wire.specs.Units.{unitOf, messageIn}
 use Rattle.wire.specs.declared.Unit.{Unit}
 use Rattle.wire.specs.declared.Unit.the-variants as unit
-use Rattle.wire.proofs.Bools.{cond-same}
+use Rattle.wire.proofs.Bools.{both, cond-same}
+use Rattle.wire.proofs.Choices.{noneUpto, first-skips}
 use Rattle.wire.proofs.Unit as the-unit
 use Rattle.wire.proofs.Fronts.{unit-fits, message-length}
-use Rattle.book.specs.Message.{listedBook}
+use Rattle.slots.specs.Slots as slots
 use Rattle.books.specs.Table.{unsound, noSlot, misfits, bookAnswer, booksAfter}
 use Rattle.books.specs.Turns.{bookTurn}
 use Rattle.book.specs.Loading.{Met, met}
 use Rattle.feed.specs.Messages.{kindOf, onMarket, market, book, wrongSize, statusOf, listed}
 use Rattle.feed.specs.Feeds.{deaf, inPhase, nextIs, internalIs, heardAt, wholeIs, freshIs}
-use Rattle.feed.specs.Events.{Tables, Event, Connect, Arrive, Cut, timeOf, Linked, Message, cutFrom, news, onMessage, newsSize, offered}
-use Rattle.feed.specs.Answers.{Answer, Keep, Lose, Spoil, Skip, Take, number, arrives, lacksNeed, isMore, isNext, allowed, seen, ofBook, passed, tests, refusal}
-use Rattle.feed.specs.Steps.{enterLive, isFresh, loggedOn, tablesAfter, does, advanced, counted, taken, act, accepted, usedOf, Outcome, stateOf, outOf, answered, usedIs, handed, outcome, outcomeFrom}
+use Rattle.feed.specs.Events.{Tables, Event, Connect, Arrive, Cut, timeOf, News, Linked, Message, cutFrom, news, onMessage, newsSize, offered}
+use Rattle.feed.specs.Answers.{number, arrives, lacksNeed, isMore, isNext, allowed, seen, ofBook, passed, lineTests, tableTests, tests, verdict, refusal}
+use Rattle.feed.specs.Steps.{enterLive, isFresh, loggedOn, clearsOn, clears, clearedIf, tablesAfter, does, advanced, counted, taken, act, accepted, usedOf, Outcome, lent, stateOf, outOf, answered, usedIs, handed, outcome, onTables}
 use Rattle.feed.specs.declared.Phase.the-variants.{WaitKey, WaitLogon, Lost, Closed}
 use Rattle.feed.specs.declared.Kind.{Kind}
 use Rattle.feed.specs.declared.Kind.the-variants.{Session, Market}
@@ -38,131 +39,102 @@ use Rattle.feed.specs.declared.Datum.the-variants.{Book, Other}
 use Rattle.feed.specs.declared.Status.{Status}
 use Rattle.feed.specs.declared.Link.{Link}
 use Rattle.feed.specs.declared.Feed.{Feed}
+use Rattle.feed.specs.declared.Answer.{Answer}
+use Rattle.feed.specs.declared.Answer.the-variants.{Keep, Lose, Spoil, Skip, Take}
 use Rattle.feed.specs.declared.Given.{Given}
 use Rattle.feed.proofs.Parts.{logon-later, parts}
+use Rattle.feed.proofs.Laws.{numbered, isTake, alone, left}
 
--- a session's message that is taken
-module _ (f : Feed) (t m : List ℕ) (n q : ℕ) (s : session.Session) (x : Feed) (k : Session s ≡ kindOf (field 2 2 m)) (a : x ≡ advanced n f) where
-  pub done-key : (y : Feed) → s ≡ SendKey → y ≡ inPhase WaitLogon x → stateOf y t ≡ taken n (Message q 0 m) (stateOf f t)
-  unfolding taken does counted market onMarket
-  done-key y e g = rw (← k, e, g, a)
+-- a session's message that is taken, with any tables
+module _ (f : Feed) (m : List ℕ) (n q i : ℕ) (x : Tables) (s : session.Session) (g : Feed) (k : Session s ≡ kindOf (field 2 2 m)) (a : g ≡ advanced n f) where
+  pub done-key : (y : Feed) → s ≡ SendKey → y ≡ inPhase WaitLogon g → stateOf y (clearedIf (clears s m f) x) ≡ taken n (Message q i m) (stateOf f x)
+  unfolding taken does counted market onMarket clears
+  done-key y e h = rw (← k, e, h, a)
 
-  pub done-logon : (y : Feed) (u : List ℕ) (b : ℕ) (r : Status) → s ≡ Logon → b ≡ field 6 1 m → r ≡ statusOf b → stateOf y u ≡ loggedOn r (stateOf x t)
-      → stateOf y u ≡ taken n (Message q 0 m) (stateOf f t)
-  unfolding taken does counted market onMarket
-  done-logon y u b r e g h l = rw (← k, e, ← g, ← h) ((rw a at l) ∙ logon-later r n f t)
+  pub done-logon : (y : Feed) (b : ℕ) (r : Status) → s ≡ Logon → b ≡ field 6 1 m → r ≡ statusOf b
+      → ((z : Tables) → stateOf y (clearedIf (clearsOn r (g .fresh)) z) ≡ loggedOn r (stateOf g z)) → stateOf y (clearedIf (clears s m f) x) ≡ taken n (Message q i m) (stateOf f x)
+  unfolding taken does counted market onMarket clears
+  done-logon y b r e h l w = rw (← k, e, ← h, ← l) ((rw a at (w x)) ∙ logon-later r n f x)
 
-  pub done-logout : (y : Feed) → s ≡ Logout → y ≡ inPhase Closed x → stateOf y t ≡ taken n (Message q 0 m) (stateOf f t)
-  unfolding taken does counted market onMarket
-  done-logout y e g = rw (← k, e, g, a)
+  pub done-logout : (y : Feed) → s ≡ Logout → y ≡ inPhase Closed g → stateOf y (clearedIf (clears s m f) x) ≡ taken n (Message q i m) (stateOf f x)
+  unfolding taken does counted market onMarket clears
+  done-logout y e h = rw (← k, e, h, a)
 
-  pub done-refresh : s ≡ Refresh → stateOf x t ≡ taken n (Message q 0 m) (stateOf f t)
-  unfolding taken does counted market onMarket
+  pub done-refresh : s ≡ Refresh → stateOf g (clearedIf (clears s m f) x) ≡ taken n (Message q i m) (stateOf f x)
+  unfolding taken does counted market onMarket clears
   done-refresh e = rw (← k, e, a)
 
-  pub done-complete : (y : Feed) (i : ℕ) → s ≡ Complete → i ≡ field 4 4 m → y ≡ enterLive (internalIs i x) → stateOf y t ≡ taken n (Message q 0 m) (stateOf f t)
-  unfolding taken does counted market onMarket
-  done-complete y i e h g = rw (← k, e, g, a, h)
+  pub done-complete : (y : Feed) (b : ℕ) → s ≡ Complete → b ≡ field 4 4 m → y ≡ enterLive (internalIs b g) → stateOf y (clearedIf (clears s m f) x) ≡ taken n (Message q i m) (stateOf f x)
+  unfolding taken does counted market onMarket clears
+  done-complete y b e l h = rw (← k, e, h, a, l)
 
-  pub done-request : s ≡ Request → stateOf x t ≡ taken n (Message q 0 m) (stateOf f t)
-  unfolding taken does counted market onMarket
+  pub done-request : s ≡ Request → stateOf g (clearedIf (clears s m f) x) ≡ taken n (Message q i m) (stateOf f x)
+  unfolding taken does counted market onMarket clears
   done-request e = rw (← k, e, a)
 
--- a session's message: its status, and no internal number that counts
-module _ (f : Feed) (t m : List ℕ) (n q : ℕ) (s : session.Session) where
-  pub session-taken : (b : Bool) (x : Feed) (u : List ℕ) (g : Given) → Session s ≡ kindOf (field 2 2 m) → b ≡ listed (Session s) m → b ≡ true
-      → stateOf x u ≡ taken n (Message q 0 m) (stateOf f t) → g ≡ answered 0 x → outOf g u ≡ outcomeFrom 8 (stateOf f t) (Cut q 0 m n)
-  unfolding outcomeFrom handed first tests timeOf news onMessage ofBook passed onMarket number act usedOf offered
-  session-taken b x u g k e h l a =
-      let r : first (drop 8 (tests f (record { books = t }) n (Message q 0 m))) (Take 0) ≡ Take 0 = rw (← k, ← e, h) in
-      rw (r, ← l, a)
+-- 18, 17, 16 or Taken, as the table of books answers
+by-books : (a b c : Bool) → cond a (Spoil 18) (cond b (Spoil 17) (cond c (Spoil 16) (Take 0)))
+    ≡ cond (eqb (cond a 18 (cond b 17 (cond c 16 0))) 0) (Take 0) (Spoil (cond a 18 (cond b 17 (cond c 16 0))))
+by-books true b c = refl
+by-books false true c = refl
+by-books false false true = refl
+by-books false false false = refl
 
-  pub session-spoilt : (b : Bool) (g : Given) → Session s ≡ kindOf (field 2 2 m) → b ≡ listed (Session s) m → b ≡ false
-      → g ≡ answered 15 (inPhase Lost (wholeIs false f)) → outOf g t ≡ outcomeFrom 8 (stateOf f t) (Cut q 0 m n)
-  unfolding outcomeFrom handed first tests timeOf news onMessage number act usedOf
-  session-spoilt b g k e h a = rw (← k, ← e, h, a)
+-- 0 is the only accepted one of these
+books-accept : (a b c : Bool) → accepted (cond a 18 (cond b 17 (cond c 16 0))) ≡ eqb (cond a 18 (cond b 17 (cond c 16 0))) 0
+books-accept true b c = refl
+books-accept false true c = refl
+books-accept false false true = refl
+books-accept false false false = refl
 
-  same-handed : (i : ℕ) → Session s ≡ kindOf (field 2 2 m) → (a : Answer) → handed a (stateOf f t) (Cut q 0 m n) ≡ handed a (stateOf f t) (Cut q i m n)
-  unfolding handed timeOf news number act usedOf offered taken counted market onMarket
-  same-handed i k (Keep a) = refl
-  same-handed i k (Lose a) = refl
-  same-handed i k (Spoil a) = refl
-  same-handed i k (Skip a) = refl
-  same-handed i k (Take a) = rw (← k)
+-- a message that is left to the tables
+module _ (f : Feed) (t m : List ℕ) (n q i : ℕ) (k : Kind) (a : k ≡ kindOf (field 2 2 m)) where
+  module _ (s : session.Session) (c : Bool) (y : Feed) (g : Given) (e : k ≡ Session s) (d : c ≡ clears s m f) where
+    no-tests : first (tableTests (lent t) n (Message q i m)) (Take 0) ≡ Take 0
+    unfolding first tableTests onMessage ofBook passed onMarket
+    no-tests = rw (← a, e)
 
-  pub session-met : (i : ℕ) (k : Kind) (o : Outcome) → k ≡ kindOf (field 2 2 m) → k ≡ Session s → o ≡ outcomeFrom 8 (stateOf f t) (Cut q 0 m n)
-      → o ≡ outcomeFrom 8 (stateOf f t) (Cut q i m n)
-  unfolding outcomeFrom first tests timeOf news onMessage
-  session-met i k o a e h = h ∙ same-handed i (sym e ∙ a) (first (drop 8 (tests f (record { books = t }) n (Message q 0 m))) (Take 0))
+    pub session-cleared : (u : List ℕ) → c ≡ true → u ≡ slots.cleared 64 t
+        → ((r j : ℕ) (x : Tables) → stateOf y (clearedIf (clears s m f) x) ≡ taken n (Message r j m) (stateOf f x)) → g ≡ answered 0 y
+        → outOf g (lent u) ≡ onTables (stateOf f (lent t)) (Cut q i m n)
+    unfolding onTables handed timeOf news number act usedOf offered
+    session-cleared u h v w l = rw (no-tests, ← w q i (lent t), ← d, h, l, v)
 
--- 15, 18, 17, 16 or Taken, as the table of books answers
-by-books : (a b c d : Bool) → cond a (Spoil 15) (cond b (Spoil 18) (cond c (Spoil 17) (cond d (Spoil 16) (Take 0))))
-    ≡ cond (eqb (cond a 15 (cond b 18 (cond c 17 (cond d 16 0)))) 0) (Take 0) (Spoil (cond a 15 (cond b 18 (cond c 17 (cond d 16 0)))))
-by-books true b c d = refl
-by-books false true c d = refl
-by-books false false true d = refl
-by-books false false false true = refl
-by-books false false false false = refl
+    pub session-kept : c ≡ false → ((r j : ℕ) (x : Tables) → stateOf y (clearedIf (clears s m f) x) ≡ taken n (Message r j m) (stateOf f x)) → g ≡ answered 0 y
+        → outOf g (lent t) ≡ onTables (stateOf f (lent t)) (Cut q i m n)
+    unfolding onTables handed timeOf news number act usedOf offered
+    session-kept h w l = rw (no-tests, ← w q i (lent t), ← d, h, l)
 
--- a market message that is allowed and not Seen
-module _ (f : Feed) (t m : List ℕ) (n q i : ℕ) where
-  book-answer : Market Book ≡ kindOf (field 2 2 m) → first (drop 8 (tests f (record { books = t }) n (Message q i m))) (Take 0)
-      ≡ cond (eqb (bookAnswer n m t) 0) (Take 0) (Spoil (bookAnswer n m t))
-  unfolding first tests onMessage listed ofBook passed onMarket book bookAnswer
-  book-answer k = rw (← k) (by-books (not (listedBook m)) (unsound m t) (noSlot m t) (misfits n m t))
+  module _ (d : Datum) (g : Given) (e : k ≡ Market d) where
+    book-tests : d ≡ Book → first (tableTests (lent t) n (Message q i m)) (Take 0) ≡ cond (eqb (bookAnswer n m t) 0) (Take 0) (Spoil (bookAnswer n m t))
+    unfolding first tableTests onMessage ofBook passed onMarket book bookAnswer
+    book-tests h = rw (← a, e, h) (by-books (unsound m t) (noSlot m t) (misfits n m t))
 
-  module _ (a : ℕ) (u : List ℕ) (g : Given) (k : Market Book ≡ kindOf (field 2 2 m)) (h : met a u ≡ bookTurn n m t) where
-    e : a ≡ bookAnswer n m t
-    e = ap (λ (x : Met). x .answer) h
+    book-accept : accepted (bookAnswer n m t) ≡ eqb (bookAnswer n m t) 0
+    unfolding bookAnswer first
+    book-accept = books-accept (unsound m t) (noSlot m t) (misfits n m t)
 
-    w : u ≡ cond (eqb a 0) (booksAfter n m t) t
-    w = ap (λ (x : Met). x .words) h ∙ rw e
+    -- by whether the table answers 0
+    book-by : d ≡ Book → (b : Bool) → eqb (bookAnswer n m t) 0 ≡ b
+        → outOf (answered (bookAnswer n m t) (cond b (advanced n (counted (Market Other) i f)) (inPhase Lost (wholeIs false f)))) (lent (cond b (booksAfter n m t) t))
+        ≡ handed (cond b (Take 0) (Spoil (bookAnswer n m t))) (stateOf f (lent t)) (Cut q i m n)
+    unfolding handed timeOf news number act usedOf offered taken does tablesAfter counted market onMarket
+    book-by h true z = rw (← a, e, h, eqb-true (bookAnswer n m t) 0 z)
+    book-by h false z = rw (cond-same {A = ℕ} (leb (bookAnswer n m t) 2) 0)
 
-    pub book-taken : (x : Feed) → a ≡ 0 → x ≡ advanced n (counted (Market Other) i f) → g ≡ answered 0 x → outOf g u ≡ outcomeFrom 8 (stateOf f t) (Cut q i m n)
-    unfolding outcomeFrom handed timeOf news number act usedOf offered taken does tablesAfter counted market onMarket
-    book-taken x z b l = rw (book-answer k, ← e, w, z, ← k, l, b)
+    pub book-met : (r : ℕ) (u : List ℕ) → d ≡ Book → met r u ≡ bookTurn n m t
+        → g ≡ answered r (cond (accepted r) (advanced n (counted (Market Other) i f)) (inPhase Lost (wholeIs false f)))
+        → outOf g (lent u) ≡ onTables (stateOf f (lent t)) (Cut q i m n)
+    unfolding onTables timeOf news
+    book-met r u h w l =
+        let p : r ≡ bookAnswer n m t = ap (λ (x : Met). x .answer) w in
+        let v : u ≡ cond (eqb (bookAnswer n m t) 0) (booksAfter n m t) t = ap (λ (x : Met). x .words) w in
+        rw (l, p, v, book-accept, book-tests h) (book-by h (eqb (bookAnswer n m t) 0) refl)
 
-    pub book-spoilt : (a ≡ 0 → ⊥) → g ≡ answered a (inPhase Lost (wholeIs false f)) → outOf g u ≡ outcomeFrom 8 (stateOf f t) (Cut q i m n)
-    unfolding outcomeFrom handed timeOf news number act usedOf offered
-    book-spoilt z l = rw (book-answer k, ← e, w, ne-eqb a 0 z, l, cond-same {A = ℕ} (leb a 2) 0)
-
-  pub other-passed : (d : Datum) (x : Feed) (g : Given) → Market d ≡ kindOf (field 2 2 m) → d ≡ Other → x ≡ advanced n (counted (Market Other) i f)
-      → g ≡ answered 2 x → outOf g t ≡ outcomeFrom 8 (stateOf f t) (Cut q i m n)
-  unfolding outcomeFrom handed first tests timeOf news onMessage listed ofBook passed onMarket book number act usedOf offered taken does tablesAfter counted market
-  other-passed d x g k e b h = rw (← k, e, ← k, e, h, b)
-
--- 14 and Seen
-module _ (f : Feed) (t m : List ℕ) (n q i : ℕ) (k : Kind) (b : Bool) (a : k ≡ kindOf (field 2 2 m)) (e : b ≡ allowed k (f .phase) i) where
-  pub row-allowed : (g : Given) → b ≡ false → g ≡ answered 14 (inPhase Lost f) → outOf g t ≡ outcomeFrom 6 (stateOf f t) (Cut q i m n)
-  unfolding outcomeFrom handed first tests timeOf news onMessage number act usedOf
-  row-allowed g h l = rw (← a, ← e, h, l)
-
-  module _ (c : Bool) (h : b ≡ true) (d : c ≡ seen f k i) where
-    pub row-seen : (x : Feed) (g : Given) → c ≡ true → x ≡ advanced n f → g ≡ answered 1 x → outOf g t ≡ outcomeFrom 6 (stateOf f t) (Cut q i m n)
-    unfolding outcomeFrom handed first tests timeOf news onMessage number act usedOf offered
-    row-seen x g j l p = rw (← a, ← e, h, ← d, j, p, l)
-
-    pub row-met : (o : Outcome) → c ≡ false → o ≡ outcomeFrom 8 (stateOf f t) (Cut q i m n) → o ≡ outcomeFrom 6 (stateOf f t) (Cut q i m n)
-    unfolding outcomeFrom first tests timeOf news onMessage
-    row-met o j l =
-        let e' : b ≡ allowed (kindOf (field 2 2 m)) (f .phase) i = rw a at e in
-        let d' : c ≡ seen f (kindOf (field 2 2 m)) i = rw a at d in
-        rw (← e', h, ← d', j) l
-
--- 12 and 13
-module _ (f : Feed) (t m : List ℕ) (n q i : ℕ) (b : Bool) (e : b ≡ wrongSize m) where
-  pub row-size : (g : Given) → b ≡ true → g ≡ answered 12 (inPhase Lost f) → outOf g t ≡ outcomeFrom 4 (stateOf f t) (Cut q i m n)
-  unfolding outcomeFrom handed first tests timeOf news onMessage number act usedOf
-  row-size g h a = rw (← e, h, a)
-
-  pub row-other : (g : Given) → b ≡ false → (q ≡ f .next → ⊥) → g ≡ answered 13 (inPhase Lost f) → outOf g t ≡ outcomeFrom 4 (stateOf f t) (Cut q i m n)
-  unfolding outcomeFrom handed first tests timeOf news onMessage isNext number act usedOf
-  row-other g h z a = rw (← e, h, ne-eqb q (f .next) z, a)
-
-  pub row-next : (o : Outcome) → b ≡ false → q ≡ f .next → q < 2 ^ 32 → o ≡ outcomeFrom 6 (stateOf f t) (Cut (f .next) i m n)
-      → o ≡ outcomeFrom 4 (stateOf f t) (Cut q i m n)
-  unfolding outcomeFrom first tests timeOf news onMessage isNext
-  row-next o h z l a = rw (z, ← e, h, eq-eqb (f .next) (f .next) refl, le-leb (f .next) 4294967295 (omega arith)) a
+    pub other-met : (y : Feed) → d ≡ Other → y ≡ advanced n (counted (Market Other) i f) → g ≡ answered 2 y
+        → outOf g (lent t) ≡ onTables (stateOf f (lent t)) (Cut q i m n)
+    unfolding onTables handed first tableTests timeOf news onMessage ofBook passed onMarket book number act usedOf offered taken does tablesAfter counted market
+    other-met y h p l = rw (← a, e, h, ← a, e, h, l, p)
 
 -- 10 and 11: what two tests refuse is not 0, and where they refuse nothing both fail
 abbrev byTwo : Bool → Bool → ℕ
@@ -173,29 +145,115 @@ refuses-none true b h = absurd (let z : ⊥ = omega arith in z)
 refuses-none false true h = absurd (let z : ⊥ = omega arith in z)
 refuses-none false false h = (refl, refl)
 
--- the first two rows at any arrival
-module _ (f : Feed) (t : List ℕ) (e : Event) (here : arrives (news e) ≡ true) where
-  refused-by : (a b : Bool) → 0 < byTwo a b → ltb (timeOf e) (f .heard) ≡ a → deaf (f .phase) ≡ b → outOf (answered (byTwo a b) f) t ≡ outcome (stateOf f t) e
-  unfolding outcome handed first tests number act usedOf
-  refused-by true b h p q = rw p
-  refused-by false true h p q = rw (p, here, q)
-  refused-by false false h p q = absurd (let z : ⊥ = omega arith in z)
+over-two : (a b : Bool) (r : ℕ) → r ≡ byTwo a b → 0 < r → 2 < r
+over-two true b r e h = omega (arith, e)
+over-two false true r e h = omega (arith, e)
+over-two false false r e h = absurd (let z : ⊥ = omega (arith, e, h) in z)
 
-  third-row : ltb (timeOf e) (f .heard) ≡ false → deaf (f .phase) ≡ false → outcome (stateOf f t) e ≡ outcomeFrom 2 (stateOf f t) e
-  unfolding outcome outcomeFrom first tests
-  third-row p q = rw (p, here, q)
+refused-by : (f : Feed) (n : ℕ) (x : News) → arrives x ≡ true → (a b : Bool) → 0 < byTwo a b → ltb n (f .heard) ≡ a → deaf (f .phase) ≡ b → Keep (byTwo a b) ≡ verdict f n x
+unfolding first lineTests
+refused-by f n x here true b h p q = rw p
+refused-by f n x here false true h p q = rw (p, here, q)
+refused-by f n x here false false h p q = absurd (let z : ⊥ = omega arith in z)
 
--- a message already cut
-module _ (f : Feed) (t m : List ℕ) (n q i r : ℕ) (e : r ≡ refusal f n) where
-  pub cut-refused : (g : Given) → 0 < r → g ≡ answered r f → outOf g t ≡ outcome (stateOf f t) (Cut q i m n)
-  unfolding timeOf news arrives
-  cut-refused g h l = rw (l, e) (refused-by f t (Cut q i m n) refl (ltb n (f .heard)) (deaf (f .phase)) (rw e at h) refl refl)
+-- what the feed makes of a message by itself
+module _ (f : Feed) (m : List ℕ) (n q i r : ℕ) (e : r ≡ refusal f n) where
+  pub row-refused : 0 < r → Keep r ≡ verdict f n (Message q i m)
+  unfolding arrives
+  row-refused h = rw e (refused-by f n (Message q i m) refl (ltb n (f .heard)) (deaf (f .phase)) (rw e at h) refl refl)
 
-  pub cut-open : (o : Outcome) → r ≤ 0 → o ≡ outcomeFrom 4 (stateOf f t) (Cut q i m n) → o ≡ outcome (stateOf f t) (Cut q i m n)
-  unfolding outcomeFrom first tests timeOf news arrives lacksNeed isMore
-  cut-open o h l =
-      let z = refuses-none (ltb n (f .heard)) (deaf (f .phase)) (rw e at h) in
-      l ∙ sym (third-row f t (Cut q i m n) refl (z .0) (z .1))
+  module _ (b : Bool) (z : r ≤ 0) (w : b ≡ wrongSize m) where
+    heard : (ltb n (f .heard) ≡ false) × (deaf (f .phase) ≡ false)
+    heard = refuses-none (ltb n (f .heard)) (deaf (f .phase)) (rw e at z)
+
+    pub row-size : b ≡ true → Lose 12 ≡ verdict f n (Message q i m)
+    unfolding first lineTests onMessage arrives lacksNeed isMore
+    row-size h = rw (heard .0, heard .1, ← w, h)
+
+    pub row-other : b ≡ false → (q ≡ f .next → ⊥) → Lose 13 ≡ verdict f n (Message q i m)
+    unfolding first lineTests onMessage arrives lacksNeed isMore isNext
+    row-other h o = rw (heard .0, heard .1, ← w, h, ne-eqb q (f .next) o)
+
+    module _ (k : Kind) (c : Bool) (h : b ≡ false) (o : q ≡ f .next) (l : q < 2 ^ 32) (a : k ≡ kindOf (field 2 2 m)) (p : c ≡ allowed k (f .phase) i) where
+      next : isNext f q ≡ true
+      unfolding isNext
+      next = rw (o, eq-eqb (f .next) (f .next) refl) (le-leb (f .next) 4294967295 (omega arith))
+
+      pub row-allowed : c ≡ false → Lose 14 ≡ verdict f n (Message q i m)
+      unfolding first lineTests onMessage arrives lacksNeed isMore
+      row-allowed j = rw (heard .0, heard .1, ← w, h, next, ← a, ← p, j)
+
+      module _ (d : Bool) (j : c ≡ true) (v : d ≡ seen f k i) where
+        pub row-seen : d ≡ true → Skip 1 ≡ verdict f n (Message q i m)
+        unfolding first lineTests onMessage arrives lacksNeed isMore
+        row-seen y = rw (heard .0, heard .1, ← w, h, next, ← a, ← p, j, ← v, y)
+
+        pub row-listed : (x : Bool) → d ≡ false → x ≡ listed k m → x ≡ true → Take 0 ≡ verdict f n (Message q i m)
+        unfolding first lineTests onMessage arrives lacksNeed isMore
+        row-listed x y u s = rw (heard .0, heard .1, ← w, h, next, ← a, ← p, j, ← v, y, ← u, s)
+
+        pub row-unlisted : (x : Bool) → d ≡ false → x ≡ listed k m → x ≡ false → Spoil 15 ≡ verdict f n (Message q i m)
+        unfolding first lineTests onMessage arrives lacksNeed isMore
+        row-unlisted x y u s = rw (heard .0, heard .1, ← w, h, next, ← a, ← p, j, ← v, y, ← u, s)
+
+-- an answer that only advances the number
+isSkip : Answer → Bool
+isSkip (Keep n) = false
+isSkip (Lose n) = false
+isSkip (Spoil n) = false
+isSkip (Skip n) = true
+isSkip (Take n) = false
+
+-- what an answer tells of the rows that stand before it
+module _ (f : Feed) (m : List ℕ) (n q i j : ℕ) (v : Answer) (e : v ≡ verdict f n (Message q i m)) where
+  next-is : (g : Answer → Bool) → T (g v) → T (noneUpto g (numbered 13) (lineTests f n (Message q i m))) → (q ≡ f .next) × (q ≤ 4294967295)
+  unfolding lineTests number onMessage isNext
+  next-is g h z =
+      let p = both (eqb q (f .next)) (leb q 4294967295)
+      (not-false (isNext f q) (first-skips g (numbered 13) (lineTests f n (Message q i m)) (Take 0) (rw (← e) h) z)) in
+      (eqb-true q (f .next) (p .0), leb-true q 4294967295 (p .1))
+
+  seen-next : v ≡ Skip j → (q ≡ f .next) × (q ≤ 4294967295)
+  unfolding lineTests isSkip number
+  seen-next h = next-is isSkip (rw h tt) tt
+
+  left-next : v ≡ Take j → (q ≡ f .next) × (q ≤ 4294967295)
+  unfolding lineTests isTake number
+  left-next h = next-is isTake (rw h tt) tt
+
+  pub seen-fits : v ≡ Skip j → f .next ≤ 4294967295
+  seen-fits h = rw (← seen-next h .0) (seen-next h .1)
+
+  pub left-fits : v ≡ Take j → f .next ≤ 4294967295
+  left-fits h = rw (← left-next h .0) (left-next h .1)
+
+  pub left-sized : v ≡ Take j → wrongSize m ≡ false
+  unfolding lineTests isTake number onMessage
+  left-sized h = first-skips isTake (numbered 12) (lineTests f n (Message q i m)) (Take 0) (rw (← e, h) tt) tt
+
+  -- a message already cut, with any tables
+  module _ (x : Tables) where
+    pub cut-kept : (g : Given) → v ≡ Keep j → g ≡ answered j f → outOf g x ≡ outcome (stateOf f x) (Cut q i m n)
+    unfolding handed timeOf news number act usedOf offered isTake
+    cut-kept g h l = rw (l, alone f x (Cut q i m n) v e (rw h tt), h, cond-same {A = ℕ} (leb j 2) 0)
+
+    pub cut-lost : (g : Given) → v ≡ Lose j → g ≡ answered j (inPhase Lost f) → outOf g x ≡ outcome (stateOf f x) (Cut q i m n)
+    unfolding handed timeOf news number act usedOf offered isTake
+    cut-lost g h l = rw (l, alone f x (Cut q i m n) v e (rw h tt), h, cond-same {A = ℕ} (leb j 2) 0)
+
+    pub cut-spoilt : (g : Given) → v ≡ Spoil j → g ≡ answered j (inPhase Lost (wholeIs false f)) → outOf g x ≡ outcome (stateOf f x) (Cut q i m n)
+    unfolding handed timeOf news number act usedOf offered isTake
+    cut-spoilt g h l = rw (l, alone f x (Cut q i m n) v e (rw h tt), h, cond-same {A = ℕ} (leb j 2) 0)
+
+    pub cut-seen : (g : Given) (y : Feed) → v ≡ Skip j → y ≡ advanced n f → g ≡ answered j y → outOf g x ≡ outcome (stateOf f x) (Cut q i m n)
+    unfolding handed timeOf news number act usedOf offered isTake
+    cut-seen g y h d l = rw (l, d, alone f x (Cut q i m n) v e (rw h tt), h, cond-same {A = ℕ} (leb j 2) 0)
+
+    pub cut-met : (o : Outcome) → v ≡ Take j → o ≡ onTables (stateOf f x) (Cut (f .next) i m n) → o ≡ outcome (stateOf f x) (Cut q i m n)
+    unfolding timeOf news isTake
+    cut-met o h l =
+        subst (λ (r : ℕ). o ≡ onTables (stateOf f x) (Cut r i m n)) (sym (left-next h .0)) l
+        ∙ sym (left f x (Cut q i m n) v e (rw h tt))
 
 -- an arrival of bytes
 arrives-cut : (s : List ℕ) (u : Unit) → arrives (cutFrom s u) ≡ true
@@ -220,34 +278,34 @@ is-more (unit.Message q i k) a b = absurd (Run.miss (0 ∷ 1 ∷ []) 2 tt a)
 abbrev countedOut : ℕ → Outcome → Outcome
 countedOut k o = record { given = usedIs (cond (accepted (o .given .answer)) k 0) (o .given); tables = o .tables }
 
-module _ (f : Feed) (t s : List ℕ) (n r : ℕ) (e : r ≡ refusal f n) where
-  pub bytes-refused : (g : Given) → 0 < r → g ≡ answered r f → outOf g t ≡ outcome (stateOf f t) (Arrive s n)
-  unfolding timeOf news
-  bytes-refused g h l = rw (l, e) (refused-by f t (Arrive s n) (arrives-cut s (unitOf s)) (ltb n (f .heard)) (deaf (f .phase)) (rw e at h) refl refl)
+module _ (f : Feed) (x : Tables) (s : List ℕ) (n : ℕ) (u : Unit) (v : u ≡ unitOf s) where
+  module _ (r : ℕ) (e : r ≡ refusal f n) where
+    pub bytes-refused : (g : Given) → 0 < r → g ≡ answered r f → outOf g x ≡ outcome (stateOf f x) (Arrive s n)
+    unfolding handed timeOf news number act usedOf isTake
+    bytes-refused g h l =
+        let w : Keep r ≡ verdict f n (cutFrom s (unitOf s)) =
+        rw e (refused-by f n (cutFrom s (unitOf s)) (arrives-cut s (unitOf s)) (ltb n (f .heard)) (deaf (f .phase)) (rw e at h) refl refl) in
+        rw (l, alone f x (Arrive s n) (Keep r) w tt, lt-leb r 2 (over-two (ltb n (f .heard)) (deaf (f .phase)) r e h))
 
-  bytes-open : r ≤ 0 → outcomeFrom 2 (stateOf f t) (Arrive s n) ≡ outcome (stateOf f t) (Arrive s n)
-  unfolding timeOf news
-  bytes-open h =
-      let z = refuses-none (ltb n (f .heard)) (deaf (f .phase)) (rw e at h) in
-      sym (third-row f t (Arrive s n) (arrives-cut s (unitOf s)) (z .0) (z .1))
+    heard-now : r ≤ 0 → (ltb n (f .heard) ≡ false) × (deaf (f .phase) ≡ false)
+    heard-now h = refuses-none (ltb n (f .heard)) (deaf (f .phase)) (rw e at h)
 
-  module _ (u : Unit) (h : r ≤ 0) (v : u ≡ unitOf s) where
-    pub bytes-more : (g : Given) → NoMessage u → NoHeartbeat u → g ≡ answered 3 f → outOf g t ≡ outcome (stateOf f t) (Arrive s n)
-    unfolding outcomeFrom handed first tests timeOf news cutFrom lacksNeed isMore number act usedOf
-    bytes-more g c d l = (rw (← v, is-more u c d, l)) ∙ bytes-open h
+    pub bytes-more : (g : Given) → r ≤ 0 → NoMessage u → NoHeartbeat u → g ≡ answered 3 f → outOf g x ≡ outcome (stateOf f x) (Arrive s n)
+    unfolding outcome handed first tests lineTests timeOf news cutFrom arrives lacksNeed isMore number act usedOf
+    bytes-more g h c d l = rw (← v, is-more u c d, heard-now h .0, heard-now h .1, l)
 
-    pub bytes-quiet : (x : Feed) (g k : Given) → u ≡ unit.Heartbeat → x ≡ heardAt n f → g ≡ answered 0 x → k ≡ usedIs (cond (accepted (g .answer)) 20 0) g
-        → outOf k t ≡ outcome (stateOf f t) (Arrive s n)
-    unfolding outcomeFrom handed first tests timeOf news cutFrom onMessage lacksNeed isMore number act taken usedOf offered newsSize
-    bytes-quiet x g k c a l w = (rw (← v, c, w, l, a)) ∙ bytes-open h
+    pub bytes-quiet : (y : Feed) (g k : Given) → r ≤ 0 → u ≡ unit.Heartbeat → y ≡ heardAt n f → g ≡ answered 0 y → k ≡ usedIs (cond (accepted (g .answer)) 20 0) g
+        → outOf k x ≡ outcome (stateOf f x) (Arrive s n)
+    unfolding outcome handed first tests lineTests tableTests timeOf news cutFrom onMessage arrives lacksNeed isMore number act taken usedOf offered newsSize
+    bytes-quiet y g k h c a l w = rw (← v, c, heard-now h .0, heard-now h .1, w, l, a)
 
-    pub bytes-message : (q i size used : ℕ) (g k : Given) (w p : List ℕ) → u ≡ unit.Message q i size → used ≡ 20 + size → p ≡ messageIn s size
-        → outOf g w ≡ outcomeFrom 4 (stateOf f t) (Cut q i p n) → k ≡ usedIs (cond (accepted (g .answer)) used 0) g
-        → outOf k w ≡ outcome (stateOf f t) (Arrive s n)
-    unfolding outcomeFrom handed first tests timeOf news cutFrom onMessage lacksNeed isMore usedOf offered newsSize
-    bytes-message q i size used g k w p c y d l j =
-        let z : length (messageIn s size) ≡ size = message-length s q i size (sym v ∙ c) in
-        (rw (← v, c, z, j, y) (ap (countedOut (20 + size)) (rw d at l))) ∙ bytes-open h
+  pub bytes-message : (q i size used : ℕ) (g k : Given) (w : Tables) (p : List ℕ) → u ≡ unit.Message q i size → used ≡ 20 + size → p ≡ messageIn s size
+      → outOf g w ≡ outcome (stateOf f x) (Cut q i p n) → k ≡ usedIs (cond (accepted (g .answer)) used 0) g
+      → outOf k w ≡ outcome (stateOf f x) (Arrive s n)
+  unfolding outcome handed timeOf news cutFrom usedOf offered newsSize
+  bytes-message q i size used g k w p c y d l j =
+      let z : length (messageIn s size) ≡ size = message-length s q i size (sym v ∙ c) in
+      rw (← v, c, z, j, y) (ap (countedOut (20 + size)) (rw d at l))
 
 pub sum-fits : (u : Unit) (s : List ℕ) (q i k : ℕ) → u ≡ unitOf s → u ≡ unit.Message q i k → length s < 2 ^ 64 → Fits w64 (20 + k)
 sum-fits u s q i k a b l = record { fits = omega (arith, unit-fits s q i k (sym a ∙ b)) }
@@ -255,17 +313,17 @@ sum-fits u s q i k a b l = record { fits = omega (arith, unit-fits s q i k (sym 
 -- a connect
 module _ (f : Feed) (l : Link) (n : ℕ) (g : Given) (x : Tables) where
   pub link-early : n < f .heard → g ≡ answered 10 f → record { given = g; tables = x } ≡ outcome (record { feed = f; tables = x }) (Connect l n)
-  unfolding outcome handed first tests timeOf number act usedOf
+  unfolding outcome handed first tests lineTests timeOf number act usedOf
   link-early a h = rw (lt-ltb n (f .heard) a, h)
 
   module _ (b : Bool) (a : f .heard ≤ n) (e : b ≡ lacksNeed f (Linked l)) where
     pub link-refused : b ≡ true → g ≡ answered 20 f → record { given = g; tables = x } ≡ outcome (record { feed = f; tables = x }) (Connect l n)
-    unfolding outcome handed first tests timeOf news arrives number act usedOf
+    unfolding outcome handed first tests lineTests timeOf news arrives number act usedOf
     link-refused h k = rw (le-ltb n (f .heard) a, ← e, h, k)
 
     pub link-taken : (y : Feed) (c : Bool) → b ≡ false → y ≡ inPhase WaitKey f → c ≡ isFresh l
         → g ≡ answered 0 (freshIs c (heardAt n (nextIs 1 y))) → record { given = g; tables = x } ≡ outcome (record { feed = f; tables = x }) (Connect l n)
-    unfolding outcome handed first tests timeOf news onMessage arrives isMore number act taken usedOf offered
+    unfolding outcome handed first tests lineTests tableTests timeOf news onMessage arrives isMore number act taken usedOf offered
     link-taken y c h k d p = rw (le-ltb n (f .heard) a, ← e, h, p, d, k)
 
 pub ruleset rows = (
@@ -276,20 +334,25 @@ pub ruleset rows = (
   done-refresh,
   done-complete,
   done-request,
-  session-taken,
-  session-spoilt,
-  session-met,
-  book-taken,
-  book-spoilt,
-  other-passed,
-  row-allowed,
-  row-seen,
-  row-met,
+  session-cleared,
+  session-kept,
+  book-met,
+  other-met,
+  row-refused,
   row-size,
   row-other,
-  row-next,
-  cut-refused,
-  cut-open,
+  row-allowed,
+  row-seen,
+  row-listed,
+  row-unlisted,
+  seen-fits,
+  left-fits,
+  left-sized,
+  cut-kept,
+  cut-lost,
+  cut-spoilt,
+  cut-seen,
+  cut-met,
   bytes-refused,
   bytes-more,
   bytes-quiet,

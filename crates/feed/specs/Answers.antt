@@ -1,7 +1,7 @@
 -- The answers, in the order they are tried (document 01, "Answer numbers, in the order they are tried"). Assumes nothing.
 use Prim.Native.Nat.{ℕ}
 use mathlib.Core.Bool.{Bool, true, false, cond, not, _&&_, _||_}
-use mathlib.Core.List.{List, [], _∷_}
+use mathlib.Core.List.{List, [], _∷_, _++_}
 use lib.Dec.{ltb, leb, eqb}
 use Rattle.wire.specs.Choice.{first}
 use Rattle.books.specs.Table.{unsound, noSlot, misfits}
@@ -15,11 +15,10 @@ use Rattle.feed.specs.declared.Kind.the-variants.{Session, Market}
 use Rattle.feed.specs.declared.Session.the-variants.{SendKey, Logon, Logout, Refresh, Complete, Request}
 use Rattle.feed.specs.declared.Feed.{Feed}
 use Rattle.feed.specs.declared.Link.the-variants.{Fresh, Resuming}
+use Rattle.feed.specs.declared.Answer.{Answer}
+use Rattle.feed.specs.declared.Answer.the-variants.{Keep, Lose, Spoil, Skip, Take}
 
--- an answer, by what the table says of the feed afterwards: unchanged; Lost; Lost and not whole; number advances, heard; as told of what is taken, heard
-pub data Answer : Type 0 where
-  Keep Lose Spoil Skip Take : ℕ → Answer
-
+-- the number of an answer (the kinds of answers are declared in src/lib.rt: Answer)
 unfoldable pub number : Answer → ℕ
 number (Keep n) = n
 number (Lose n) = n
@@ -78,9 +77,9 @@ ofBook k b = onMarket book k && b
 unfoldable pub passed : Kind → Bool
 passed k = onMarket (λ d. not (book d)) k
 
--- the table of document 01 from its second row on (its first, 19, is newGiven's)
-unfoldable pub tests : Feed → Tables → ℕ → News → List (Bool × Answer)
-tests f x time n =
+-- the table of document 01 from its second row on (its first, 19, is newGiven's): what a feed decides by itself ..
+unfoldable pub lineTests : Feed → ℕ → News → List (Bool × Answer)
+lineTests f time n =
     (ltb time (f .heard), Keep 10)
     ∷ (arrives n && deaf (f .phase), Keep 11)
     ∷ (lacksNeed f n, Keep 20)
@@ -90,11 +89,19 @@ tests f x time n =
     ∷ (onMessage (λ seq internal m. not (allowed (kind m) (f .phase) internal)) n, Lose 14)
     ∷ (onMessage (λ seq internal m. seen f (kind m) internal) n, Skip 1)
     ∷ (onMessage (λ seq internal m. not (listed (kind m) m)) n, Spoil 15)
-    ∷ (onMessage (λ seq internal m. ofBook (kind m) (unsound m (x .books))) n, Spoil 18)
+    ∷ []
+
+-- .. and what needs tables
+unfoldable pub tableTests : Tables → ℕ → News → List (Bool × Answer)
+tableTests x time n =
+    (onMessage (λ seq internal m. ofBook (kind m) (unsound m (x .books))) n, Spoil 18)
     ∷ (onMessage (λ seq internal m. ofBook (kind m) (noSlot m (x .books))) n, Spoil 17)
     ∷ (onMessage (λ seq internal m. ofBook (kind m) (misfits time m (x .books))) n, Spoil 16)
     ∷ (onMessage (λ seq internal m. passed (kind m)) n, Take 2)
     ∷ []
+
+unfoldable pub tests : Feed → Tables → ℕ → News → List (Bool × Answer)
+tests f x time n = lineTests f time n ++ tableTests x time n
 
 -- the answer of the first test that passes, and Taken where none does
 abbrev pub answerTo : Feed → Tables → ℕ → News → Answer
@@ -103,6 +110,10 @@ answerTo f x time n = first (tests f x time n) (Take 0)
 abbrev pub reply : State → Event → Answer
 reply s e = answerTo (s .feed) (s .tables) (timeOf e) (news e)
 
--- what the first two rows make of an arrival: 10, 11, and 0 where neither passes
+-- what the feed by itself makes of it: Take 0 where it leaves the answer to the tables
+abbrev pub verdict : Feed → ℕ → News → Answer
+verdict f time n = first (lineTests f time n) (Take 0)
+
+-- 10 and 11 of an arrival, and 0 where it gets neither
 abbrev pub refusal : Feed → ℕ → ℕ
 refusal f time = cond (ltb time (f .heard)) 10 (cond (deaf (f .phase)) 11 0)

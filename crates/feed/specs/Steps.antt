@@ -2,17 +2,17 @@
 use Prim.Native.Nat.{ℕ, _+_}
 use mathlib.Core.Bool.{Bool, true, false, cond, _&&_}
 use mathlib.Core.List.{List}
-use lib.ListN.{drop}
 use lib.Dec.{leb}
 use Rattle.wire.specs.Choice.{first}
 use Rattle.books.specs.Table.{booksAfter}
 use Rattle.feed.specs.Messages.{kind, market, statusOf, logonStatus, lastInternal}
 use Rattle.feed.specs.Feeds.{is, inPhase, nextIs, internalIs, heardAt, wholeIs, freshIs}
 use Rattle.feed.specs.Events.{Tables, clearedTables, State, Event, timeOf, News, Linked, More, Heartbeat, Message, news, offered}
-use Rattle.feed.specs.Answers.{Answer, Keep, Lose, Spoil, Skip, Take, number, tests, reply}
+use Rattle.feed.specs.Answers.{number, tableTests, reply}
 use Rattle.feed.specs.declared.Phase.the-variants.{WaitKey, WaitLogon, Refreshing, Live, Lost, Closed}
 use Rattle.feed.specs.declared.Kind.{Kind}
 use Rattle.feed.specs.declared.Kind.the-variants.{Session, Market}
+use Rattle.feed.specs.declared.Session as session
 use Rattle.feed.specs.declared.Session.the-variants.{SendKey, Logon, Logout, Refresh, Complete, Request}
 use Rattle.feed.specs.declared.Datum.{Datum}
 use Rattle.feed.specs.declared.Datum.the-variants.{Book, Other}
@@ -22,6 +22,8 @@ use Rattle.feed.specs.declared.Link.{Link}
 use Rattle.feed.specs.declared.Link.the-variants.{Fresh, Resuming}
 use Rattle.feed.specs.declared.Feed.{Feed}
 use Rattle.feed.specs.declared.Given.{Given}
+use Rattle.feed.specs.declared.Answer.{Answer}
+use Rattle.feed.specs.declared.Answer.the-variants.{Keep, Lose, Spoil, Skip, Take}
 
 -- the feed of a state changed, its tables as they are
 abbrev pub onFeed : (Feed → Feed) → State → State
@@ -51,6 +53,22 @@ loggedOn Refills s = onFeed (inPhase Refreshing) (cleared s)
 loggedOn Stays s = s
 loggedOn Closes s = onFeed (inPhase Closed) s
 loggedOn Unlisted s = s
+
+-- whether a logon clears the tables, by its status and "whether the last accepted connect was fresh"; and any session's message
+unfoldable pub clearsOn : Status → Bool → Bool
+clearsOn Opens fresh = fresh
+clearsOn Refills fresh = true
+clearsOn Stays fresh = false
+clearsOn Closes fresh = false
+clearsOn Unlisted fresh = false
+
+unfoldable pub clears : session.Session → List ℕ → Feed → Bool
+clears SendKey m f = false
+clears Logon m f = clearsOn (statusOf (logonStatus m)) (f .fresh)
+clears Logout m f = false
+clears Refresh m f = false
+clears Complete m f = false
+clears Request m f = false
 
 -- the tables after a market message that is taken or passed over at a time
 unfoldable pub tablesAfter : Datum → ℕ → List ℕ → Tables → Tables
@@ -107,13 +125,20 @@ pub record Outcome : Type 0 where
   pub given : Given
   pub tables : Tables
 
--- a feed with the table of books that is lent
-abbrev pub stateOf : Feed → List ℕ → State
-stateOf f t = record { feed = f; tables = record { books = t } }
+-- the tables that are lent: the books' words
+abbrev pub lent : List ℕ → Tables
+lent books = record { books = books }
 
--- what a call hands back, with that table after it
-abbrev pub outOf : Given → List ℕ → Outcome
-outOf g t = record { given = g; tables = record { books = t } }
+-- the tables as they are left, cleared or not
+abbrev pub clearedIf : Bool → Tables → Tables
+clearedIf b x = cond b (clearedTables x) x
+
+-- a feed with tables, and what a call hands back with the tables after it
+abbrev pub stateOf : Feed → Tables → State
+stateOf f x = record { feed = f; tables = x }
+
+abbrev pub outOf : Given → Tables → Outcome
+outOf g x = record { given = g; tables = x }
 
 -- an answer with no bytes used, and the feed after it
 abbrev pub answered : ℕ → Feed → Given
@@ -133,6 +158,6 @@ handed a s e = record {
 unfoldable pub outcome : State → Event → Outcome
 outcome s e = handed (reply s e) s e
 
--- the same from row k of the table on, where no row before it passes
-unfoldable pub outcomeFrom : ℕ → State → Event → Outcome
-outcomeFrom k s e = handed (first (drop k (tests (s .feed) (s .tables) (timeOf e) (news e))) (Take 0)) s e
+-- the same where the feed by itself leaves the answer to the tables
+unfoldable pub onTables : State → Event → Outcome
+onTables s e = handed (first (tableTests (s .tables) (timeOf e) (news e)) (Take 0)) s e

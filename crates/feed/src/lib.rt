@@ -3,7 +3,7 @@ use wire::Unit;
 ghost use mathlib.Core.Path.{_≡_};
 ghost use mathlib.Core.Bool.{true, false, cond, _&&_};
 ghost use mathlib.Core.List.{[], _∷_};
-ghost use Prim.Native.Nat.{_+_, _≤_, _<_};
+ghost use Prim.Native.Nat.{ℕ, _+_, _≤_, _<_};
 ghost use lib.Dec.{leb};
 ghost use Rattle.wire.specs.Choice.{oneOf};
 ghost use Rattle.wire.specs.Number.{field};
@@ -11,8 +11,8 @@ ghost use Rattle.book.specs.Message.{bookSized};
 ghost use Rattle.feed.specs.Messages.{datumOf, kindOf, kind as kindIn, sized, wrongSize, statusOf, listedStatus, listed};
 ghost use Rattle.feed.specs.Feeds.{phaseNo, is, deaf, inPhase, internalIs, heardAt, wholeIs, listedLimit, newFeed, newGiven, colour, badgeNo, badge as badgeFor, badgeOf, phaseOf, plainBadge};
 ghost use Rattle.feed.specs.Events.{Tables, Connect, Arrive, Cut, Linked, Message};
-ghost use Rattle.feed.specs.Answers.{lacksNeed, lastSeqNum, allowed, seen, refusal as refusalOf};
-ghost use Rattle.feed.specs.Steps.{cleared as clearedState, enterLive, isFresh, loggedOn, advanced as advancedAt, counted, taken, accepted, stateOf, outOf, answered, usedIs, outcome, outcomeFrom};
+ghost use Rattle.feed.specs.Answers.{lacksNeed, lastSeqNum, allowed, seen, verdict as verdictOf, refusal as refusalOf};
+ghost use Rattle.feed.specs.Steps.{enterLive, isFresh, loggedOn, clearsOn, clears, clearedIf, advanced as advancedAt, counted, taken, accepted, lent, stateOf, outOf, answered, usedIs, outcome, onTables};
 
 // The phases, in the order in which they count from 0.
 pub enum Phase {
@@ -35,6 +35,16 @@ pub struct Feed {
     pub limit: u64,
     pub whole: bool,
     pub fresh: bool,
+}
+
+// An answer, by what document 01's table says of the feed afterwards: unchanged; Lost; Lost and not whole; the number advances, heard;
+// as told of what is taken, heard.
+pub enum Answer {
+    Keep(u64),
+    Lose(u64),
+    Spoil(u64),
+    Skip(u64),
+    Take(u64),
 }
 
 // What a call hands back: document 01's answer number, the bytes used, and the feed after it.
@@ -403,6 +413,33 @@ fn is_session_listed(session: Session, m: &[u8]) -> bool
     }
 }
 
+// Whether the fields of a message of the right size are listed.
+fn is_listed(kind: Kind, m: &[u8]) -> bool
+    requires { ⌜ (kind ≡ kindIn (now m)) × (wrongSize (now m) ≡ false) ⌝ }
+    ensures { λ r. ⌜ r ≡ listed kind (now (m .entry)) ⌝ }
+{
+    match kind {
+        Kind::Session(session) => is_session_listed(session, m),
+        Kind::Market(datum) => match datum {
+            Datum::Book => books::is_listed(m),
+            Datum::Other => true,
+        },
+    }
+}
+
+// Whether a logon clears the tables, by its status and whether the last accepted connect was fresh.
+fn is_cleared_by(status: Status, fresh: bool) -> bool
+    ensures { λ r. ⌜ r ≡ clearsOn status fresh ⌝ }
+{
+    match status {
+        Status::Opens => fresh,
+        Status::Refills => true,
+        Status::Stays => false,
+        Status::Closes => false,
+        Status::Unlisted => false,
+    }
+}
+
 // Whether a connect is fresh.
 fn is_fresh(link: Link) -> bool
     ensures { λ r. ⌜ r ≡ isFresh link ⌝ }
@@ -524,11 +561,10 @@ impl Feed {
         f
     }
 
-    // The table is cleared: the last internal number is 0, and the feed is not whole.
-    fn cleared(self, table: &mut [u64]) -> Feed
-        ensures { λ r. ⌜ stateOf r (now (table .exit)) ≡ clearedState (stateOf self (now (table .entry))) ⌝ }
+    // What clearing makes of the feed: the last internal number is 0, and it is not whole.
+    fn forgotten(self) -> Feed
+        ensures { λ r. ⌜ r ≡ internalIs 0 (wholeIs false self) ⌝ }
     {
-        slots::clear(table, 64);
         let mut f = self;
         f.internal = 0;
         f.whole = false;
@@ -553,45 +589,47 @@ impl Given {
 
 // What messages do.
 impl Feed {
-    // A logon with status 0 or 2: Live, and after a fresh connect the table is cleared first.
-    fn opened(self, table: &mut [u64]) -> Feed
-        ensures { λ r. ⌜ stateOf r (now (table .exit)) ≡ loggedOn Status.Opens (stateOf self (now (table .entry))) ⌝ }
-    {
-        if self.fresh {
-            return self.cleared(table).live();
-        }
-        self.live()
-    }
-
-    // A logon with status 101: cleared, Refreshing.
-    fn refilled(self, table: &mut [u64]) -> Feed
-        ensures { λ r. ⌜ stateOf r (now (table .exit)) ≡ loggedOn Status.Refills (stateOf self (now (table .entry))) ⌝ }
-    {
-        self.cleared(table).in_phase(Phase::Refreshing)
-    }
-
-    // What a logon's status does.
-    fn logged_on(self, table: &mut [u64], status: Status) -> Feed
-        ensures { λ r. ⌜ stateOf r (now (table .exit)) ≡ loggedOn status (stateOf self (now (table .entry))) ⌝ }
+    // What a logon's status makes of the feed.
+    fn logged_on(self, status: Status) -> Feed
+        ensures { λ r. ⌜ ((x : Tables) → stateOf r (clearedIf (clearsOn status (self .fresh)) x) ≡ loggedOn status (stateOf self x)) ⌝ }
     {
         match status {
-            Status::Opens => self.opened(table),
-            Status::Refills => self.refilled(table),
+            Status::Opens => {
+                if self.fresh {
+                    return self.forgotten().live();
+                }
+                self.live()
+            }
+            Status::Refills => self.forgotten().in_phase(Phase::Refreshing),
             Status::Stays => self,
             Status::Closes => self.in_phase(Phase::Closed),
             Status::Unlisted => self,
         }
     }
 
-    // A session's message that is taken: what it does, and the next SeqNum advances.
-    fn done(self, table: &mut [u64], session: Session, message: &[u8], time: u64) -> Feed
+    // Whether a session's message that is taken clears the tables.
+    fn is_clearing(self, session: Session, message: &[u8]) -> bool
+        ensures { λ r. ⌜ r ≡ clears session (now (message .entry)) self ⌝ }
+    {
+        match session {
+            Session::SendKey => false,
+            Session::Logon => is_cleared_by(status_of(byte_in(message, 6)), self.fresh),
+            Session::Logout => false,
+            Session::Refresh => false,
+            Session::Complete => false,
+            Session::Request => false,
+        }
+    }
+
+    // The feed after a session's message that is taken: what it does, and the next SeqNum advances.
+    fn done(self, session: Session, message: &[u8], time: u64) -> Feed
         requires { ⌜ (Kind.Session session ≡ kindIn (now message)) × (self .next ≤ lastSeqNum) ⌝ }
-        ensures { λ r. ⌜ stateOf r (now (table .exit)) ≡ taken time (Message (self .next) 0 (now (message .entry))) (stateOf self (now (table .entry))) ⌝ }
+        ensures { λ r. ⌜ ((seq internal : ℕ) (x : Tables) → stateOf r (clearedIf (clears session (now (message .entry)) self) x) ≡ taken time (Message seq internal (now (message .entry))) (stateOf self x)) ⌝ }
     {
         let f = self.advanced(time);
         match session {
             Session::SendKey => f.in_phase(Phase::WaitLogon),
-            Session::Logon => f.logged_on(table, status_of(byte_in(message, 6))),
+            Session::Logon => f.logged_on(status_of(byte_in(message, 6))),
             Session::Logout => f.in_phase(Phase::Closed),
             Session::Refresh => f,
             Session::Complete => f.completed(wire::u32_at(message, 4)),
@@ -599,55 +637,34 @@ impl Feed {
         }
     }
 
-    // A session's message that is allowed: 15, or Taken.
-    fn session(self, table: &mut [u64], session: Session, message: &[u8], time: u64) -> Given
-        requires { ⌜ (Kind.Session session ≡ kindIn (now message)) × (self .next ≤ lastSeqNum) ⌝ }
-        ensures { λ r. ⌜ outOf r (now (table .exit)) ≡ outcomeFrom 8 (stateOf self (now (table .entry))) (Cut (self .next) 0 (now (message .entry)) time) ⌝ }
+    // A market message, as its table answers it: taken, or Lost and not whole.
+    fn market(self, answer: u64, internal: u32, time: u64) -> Given
+        requires { ⌜ self .next ≤ lastSeqNum ⌝ }
+        ensures { λ r. ⌜ r ≡ answered answer (cond (accepted answer) (advancedAt time (counted (Kind.Market Datum.Other) internal self)) (inPhase Phase.Lost (wholeIs false self))) ⌝ }
     {
-        if is_session_listed(session, message) {
-            return self.done(table, session, message, time).kept(0);
-        }
-        self.spoilt(15)
-    }
-
-    // A book message that is allowed and not Seen: 15, 18, 17, 16 or Taken.
-    fn book(self, table: &mut [u64], internal: u32, message: &[u8], time: u64) -> Given
-        requires { ⌜ (Kind.Market Datum.Book ≡ kindIn (now message)) × (wrongSize (now message) ≡ false) × (self .next ≤ lastSeqNum) ⌝ }
-        ensures { λ r. ⌜ outOf r (now (table .exit)) ≡ outcomeFrom 8 (stateOf self (now (table .entry))) (Cut (self .next) internal (now (message .entry)) time) ⌝ }
-    {
-        let answer = books::take(table, message, time);
-        if answer == 0 {
-            return self.numbered(internal, time).kept(0);
+        if answer <= 2 {
+            return self.numbered(internal, time).kept(answer);
         }
         self.spoilt(answer)
     }
 
-    // A market message that is allowed and not Seen.
-    fn market(
-        self,
-        table: &mut [u64],
-        datum: Datum,
-        internal: u32,
-        message: &[u8],
-        time: u64,
-    ) -> Given
-        requires { ⌜ (Kind.Market datum ≡ kindIn (now message)) × (wrongSize (now message) ≡ false) × (self .next ≤ lastSeqNum) ⌝ }
-        ensures { λ r. ⌜ outOf r (now (table .exit)) ≡ outcomeFrom 8 (stateOf self (now (table .entry))) (Cut (self .next) internal (now (message .entry)) time) ⌝ }
-    {
-        match datum {
-            Datum::Book => self.book(table, internal, message, time),
-            Datum::Other => self.numbered(internal, time).kept(2),
-        }
-    }
-
-    // A message that is allowed and not Seen.
-    fn met(self, table: &mut [u64], kind: Kind, internal: u32, message: &[u8], time: u64) -> Given
+    // A message that the feed leaves to the tables: what they make of it, and of the feed. All that is written is written here.
+    fn act(self, table: &mut [u64], kind: Kind, internal: u32, message: &[u8], time: u64) -> Given
         requires { ⌜ (kind ≡ kindIn (now message)) × (wrongSize (now message) ≡ false) × (self .next ≤ lastSeqNum) ⌝ }
-        ensures { λ r. ⌜ outOf r (now (table .exit)) ≡ outcomeFrom 8 (stateOf self (now (table .entry))) (Cut (self .next) internal (now (message .entry)) time) ⌝ }
+        ensures { λ r. ⌜ outOf r (lent (now (table .exit))) ≡ onTables (stateOf self (lent (now (table .entry)))) (Cut (self .next) internal (now (message .entry)) time) ⌝ }
     {
         match kind {
-            Kind::Session(session) => self.session(table, session, message, time),
-            Kind::Market(datum) => self.market(table, datum, internal, message, time),
+            Kind::Session(session) => {
+                if self.is_clearing(session, message) {
+                    slots::clear(table, 64);
+                    return self.done(session, message, time).kept(0);
+                }
+                self.done(session, message, time).kept(0)
+            }
+            Kind::Market(datum) => match datum {
+                Datum::Book => self.market(books::take(table, message, time), internal, time),
+                Datum::Other => self.numbered(internal, time).kept(2),
+            },
         }
     }
 }
@@ -668,49 +685,6 @@ impl Feed {
         false
     }
 
-    // A message with the next SeqNum: 14, Seen, or what it does.
-    fn judged(
-        self,
-        table: &mut [u64],
-        kind: Kind,
-        internal: u32,
-        message: &[u8],
-        time: u64,
-    ) -> Given
-        requires { ⌜ (kind ≡ kindIn (now message)) × (wrongSize (now message) ≡ false) × (self .next ≤ lastSeqNum) ⌝ }
-        ensures { λ r. ⌜ outOf r (now (table .exit)) ≡ outcomeFrom 6 (stateOf self (now (table .entry))) (Cut (self .next) internal (now (message .entry)) time) ⌝ }
-    {
-        let phase = self.phase;
-        if is_allowed(kind, phase, internal) {
-            if self.is_seen(kind, internal) {
-                return self.advanced(time).kept(1);
-            }
-            return self.met(table, kind, internal, message, time);
-        }
-        self.lost(14)
-    }
-
-    // A message that comes in time to a feed that is open: 12, 13, or what it is judged.
-    fn delivered(
-        self,
-        table: &mut [u64],
-        seq: u32,
-        internal: u32,
-        message: &[u8],
-        time: u64,
-    ) -> Given
-        ensures { λ r. ⌜ outOf r (now (table .exit)) ≡ outcomeFrom 4 (stateOf self (now (table .entry))) (Cut seq internal (now (message .entry)) time) ⌝ }
-    {
-        let kind = kind_in(message);
-        if is_wrong(kind, message) {
-            return self.lost(12);
-        }
-        if seq as u64 == self.next {
-            return self.judged(table, kind, internal, message, time);
-        }
-        self.lost(13)
-    }
-
     // 10 or 11, where an arrival gets no further, and 0 where it does.
     fn refusal(self, time: u64) -> u64
         ensures { λ r. ⌜ r ≡ refusalOf self time ⌝ }
@@ -725,30 +699,32 @@ impl Feed {
         0
     }
 
-    // An arrival of bytes.
-    pub fn arrive(self, table: &mut [u64], bytes: &[u8], time: u64) -> Given
-        ensures { λ r. ⌜ outOf r (now (table .exit)) ≡ outcome (stateOf self (now (table .entry))) (Arrive (now (bytes .entry)) time) ⌝ }
+    // What the feed by itself makes of a message: 10, 11, 12, 13, 14, 1, 15, or 0 where it leaves the answer to the tables.
+    fn verdict(self, kind: Kind, seq: u32, internal: u32, message: &[u8], time: u64) -> Answer
+        requires { ⌜ kind ≡ kindIn (now message) ⌝ }
+        ensures { λ r. ⌜ r ≡ verdictOf self time (Message seq internal (now (message .entry))) ⌝ }
     {
         let refused = self.refusal(time);
         if 0 < refused {
-            return self.kept(refused);
+            return Answer::Keep(refused);
         }
-        let unit = wire::unit_in(bytes);
-        let Unit::Message {
-            seq,
-            internal,
-            size,
-        } = unit
-        else {
-            if let Unit::Heartbeat = unit {
-                return self.heard_at(time).kept(0).counted(20);
+        if is_wrong(kind, message) {
+            return Answer::Lose(12);
+        }
+        if seq as u64 != self.next {
+            return Answer::Lose(13);
+        }
+        let phase = self.phase;
+        if is_allowed(kind, phase, internal) {
+            if self.is_seen(kind, internal) {
+                return Answer::Skip(1);
             }
-            return self.kept(3);
-        };
-        let used = 20 + size;
-        let message = wire::message(bytes, size);
-        self.delivered(table, seq, internal, message, time)
-            .counted(used)
+            if is_listed(kind, message) {
+                return Answer::Take(0);
+            }
+            return Answer::Spoil(15);
+        }
+        Answer::Lose(14)
     }
 
     // The two numbers and a message already cut: never More, never a heartbeat, no bytes used.
@@ -760,13 +736,43 @@ impl Feed {
         message: &[u8],
         time: u64,
     ) -> Given
-        ensures { λ r. ⌜ outOf r (now (table .exit)) ≡ outcome (stateOf self (now (table .entry))) (Cut seq internal (now (message .entry)) time) ⌝ }
+        ensures { λ r. ⌜ outOf r (lent (now (table .exit))) ≡ outcome (stateOf self (lent (now (table .entry)))) (Cut seq internal (now (message .entry)) time) ⌝ }
     {
-        let refused = self.refusal(time);
-        if 0 < refused {
-            return self.kept(refused);
+        let kind = kind_in(message);
+        let verdict = self.verdict(kind, seq, internal, message, time);
+        match verdict {
+            Answer::Keep(n) => self.kept(n),
+            Answer::Lose(n) => self.lost(n),
+            Answer::Spoil(n) => self.spoilt(n),
+            Answer::Skip(n) => self.advanced(time).kept(n),
+            Answer::Take(_) => self.act(table, kind, internal, message, time),
         }
-        self.delivered(table, seq, internal, message, time)
+    }
+
+    // An arrival of bytes.
+    pub fn arrive(self, table: &mut [u64], bytes: &[u8], time: u64) -> Given
+        ensures { λ r. ⌜ outOf r (lent (now (table .exit))) ≡ outcome (stateOf self (lent (now (table .entry)))) (Arrive (now (bytes .entry)) time) ⌝ }
+    {
+        let unit = wire::unit_in(bytes);
+        let Unit::Message {
+            seq,
+            internal,
+            size,
+        } = unit
+        else {
+            let refused = self.refusal(time);
+            if 0 < refused {
+                return self.kept(refused);
+            }
+            if let Unit::Heartbeat = unit {
+                return self.heard_at(time).kept(0).counted(20);
+            }
+            return self.kept(3);
+        };
+        let used = 20 + size;
+        let message = wire::message(bytes, size);
+        self.arrive_cut(table, seq, internal, message, time)
+            .counted(used)
     }
 }
 

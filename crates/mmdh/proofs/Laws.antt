@@ -14,7 +14,7 @@ use Rattle.wire.specs.Choice as choice
 use Rattle.book.specs.Words.{bookWidth}
 use Rattle.feed.specs.Feeds.{listedLimit, newGiven}
 use Rattle.feed.specs.Events.{Tables, Connect, Arrive}
-use Rattle.feed.specs.Steps.{Outcome, accepted, stateOf, outOf, handed, outcome}
+use Rattle.feed.specs.Steps.{Outcome, accepted, lent, stateOf, outOf, handed, outcome}
 use Rattle.feed.specs.Program.{Stand, connection, bufferSize, follow}
 use Rattle.feed.specs.declared.Given.{Given}
 use Rattle.feed.specs.declared.Link.the-variants.{Fresh}
@@ -52,22 +52,22 @@ first-turn : (calls : ℕ) (s : List ℕ) (x : Stand) → follow (suc calls) s x
 unfolding follow
 first-turn calls s x = refl
 
-module _ (r : Run) (buf t u : List ℕ) (g : Given) (w : Within r buf) (e : outOf g u ≡ outcome (stateOf (r .feed) t) (Arrive (left r buf) 0)) where
+module _ (r : Run) (buf t u : List ℕ) (g : Given) (w : Within r buf) (e : outOf g (lent u) ≡ outcome (stateOf (r .feed) (lent t)) (Arrive (left r buf) 0)) where
   -- the bytes used are among those that are left
   pub call-fits : g .used ≤ r .to - r .from
   call-fits =
-      let h : outcome (stateOf (r .feed) t) (Arrive (left r buf) 0) .given .used ≤ length (left r buf) = used-fits (stateOf (r .feed) t) (left r buf) 0 in
+      let h : outcome (stateOf (r .feed) (lent t)) (Arrive (left r buf) 0) .given .used ≤ length (left r buf) = used-fits (stateOf (r .feed) (lent t)) (left r buf) 0 in
       let f : g .used ≤ length (left r buf) = rw (ap (λ (o : Outcome). o .given .used) e) h in
       omega (arith, simp (length-take, length-drop) at f)
 
   -- the first turn of Program's run, by what the call hands back
-  turn : (calls : ℕ) → follow (suc calls) (left r buf) (standOf r t) ≡ next calls (left r buf) (r .units) (outOf g u)
+  turn : (calls : ℕ) → follow (suc calls) (left r buf) (standOf r t) ≡ next calls (left r buf) (r .units) (outOf g (lent u))
   turn calls =
       let inside : r .to ≤ length buf = w .inside in
       let size : length buf ≡ bufferSize = w .size in
       let whole : length (left r buf) ≤ bufferSize = simp (length-take, length-drop) (omega arith) in
       first-turn calls (left r buf) (standOf r t)
-      ∙ ap (λ (s : List ℕ). next calls (left r buf) (r .units) (outcome (stateOf (r .feed) t) (Arrive s 0))) (take-all bufferSize (left r buf) whole)
+      ∙ ap (λ (s : List ℕ). next calls (left r buf) (r .units) (outcome (stateOf (r .feed) (lent t)) (Arrive s 0))) (take-all bufferSize (left r buf) whole)
       ∙ ap (next calls (left r buf) (r .units)) (sym e)
 
   -- a call is a turn of Program's run
@@ -87,10 +87,10 @@ module _ (r : Run) (buf t u : List ℕ) (g : Given) (w : Within r buf) (e : outO
       counts (no p) = omega (arith, k .1 (omega arith))
 
       meets : (calls : ℕ) → Dec (g .answer ≤ 2)
-          → next calls (left r buf) (r .units) (outOf g u)
+          → next calls (left r buf) (r .units) (outOf g (lent u))
           ≡ cond (accepted (g .answer))
-          (follow calls (take (r .to - (r .from + g .used)) (drop (r .from + g .used) buf)) (record { answer = g .answer; units = units; state = stateOf (g .feed) u }))
-          (record { answer = g .answer; units = units; state = stateOf (g .feed) u })
+          (follow calls (take (r .to - (r .from + g .used)) (drop (r .from + g .used) buf)) (record { answer = g .answer; units = units; state = stateOf (g .feed) (lent u) }))
+          (record { answer = g .answer; units = units; state = stateOf (g .feed) (lent u) })
       meets calls (yes p) = rw (le-leb (g .answer) 2 p, k .0 p, left-after (r .from) (r .to) (g .used) buf call-fits (w .inside))
       meets calls (no p) = rw (lt-leb (g .answer) 2 (omega arith), k .1 (omega arith))
 

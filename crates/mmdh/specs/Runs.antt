@@ -4,7 +4,7 @@ use mathlib.Core.Path.{_≡_}
 use mathlib.Core.Bool.{cond}
 use mathlib.Core.List.{List}
 use lib.ListN.{length, take, drop}
-use Rattle.feed.specs.Steps.{accepted, stateOf}
+use Rattle.feed.specs.Steps.{accepted, lent, stateOf}
 use Rattle.feed.specs.Program.{bufferSize, Stand, follow}
 use Rattle.mmdh.specs.declared.Run.{Run}
 
@@ -20,7 +20,7 @@ left r buf = take (r .to - r .from) (drop (r .from) buf)
 
 -- where a run stands, in the terms of Program
 abbrev pub standOf : Run → List ℕ → Stand
-standOf r table = record { answer = r .answer; units = r .units; state = stateOf (r .feed) table }
+standOf r table = record { answer = r .answer; units = r .units; state = stateOf (r .feed) (lent table) }
 
 -- q is r after one call: the run of Program, from r on, is q where the call is not accepted, and else the run from q on
 pub record Called (r q : Run) (buf table tableAfter : List ℕ) : Type 0 where

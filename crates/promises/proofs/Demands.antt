@@ -20,8 +20,12 @@ use Rattle.book.proofs.Orders.{price-once}
 use Rattle.book.specs.declared.Way.the-variants.{Bid, Offer}
 use Rattle.feed.specs.Messages.{kind, onMarket, book}
 use Rattle.feed.specs.Events.{State, Event, News, Message, timeOf, cutFrom, news, offered, onMessage}
-use Rattle.feed.specs.Answers.{Answer, Keep, Lose, Spoil, Skip, Take, number, isNext, tests, answerTo, reply, ofBook}
+use Rattle.feed.specs.Answers.{number, isNext, lineTests, tableTests, tests, answerTo, reply, ofBook}
 use Rattle.feed.specs.Steps.{tablesAfter, does, taken, act, accepted, usedOf, handed, outcome}
+use Rattle.feed.specs.declared.Answer.{Answer}
+use Rattle.feed.specs.declared.Answer.the-variants.{Keep, Lose, Spoil, Skip, Take}
+use Rattle.feed.proofs.Laws.{numbered}
+use Rattle.promises.specs.Refusals.{keeping, losing, spoiling}
 use Rattle.promises.specs.Runs.{start, after, run}
 use Rattle.promises.specs.Demands as D
 use Rattle.promises.proofs.Refused as F
@@ -83,9 +87,9 @@ is-yes true e = tt
 is-yes false e = absurd (true≢false (sym e))
 
 next-is : (s : State) (time seq internal : ℕ) (m : List ℕ) → accepted (number (answerTo (s .feed) (s .tables) time (Message seq internal m))) ≡ true → isNext (s .feed) seq ≡ true
-unfolding isAccepted tests all onMessage number
+unfolding isAccepted tests lineTests tableTests onMessage number
 next-is s time seq internal m h =
-    not-false (isNext (s .feed) seq) (first-skips isAccepted (tests (s .feed) (s .tables) time (Message seq internal m)) (Take 0) (is-yes _ h) 5 tt)
+    not-false (isNext (s .feed) seq) (first-skips isAccepted (numbered 13) (tests (s .feed) (s .tables) time (Message seq internal m)) (Take 0) (is-yes _ h) tt)
 
 pub next : D.Next
 unfolding outcome handed isNext
@@ -96,9 +100,9 @@ next s e seq internal m b h =
 -- an answer of 0 is Taken
 zero-take : (a : Answer) → T (proper a) → number a ≡ 0 → a ≡ Take 0
 unfolding proper number oneOf
-zero-take (Keep n) p e = absurd (subst (λ (k : ℕ). T (oneOf k (10 ∷ 11 ∷ 20 ∷ 3 ∷ []))) e p)
-zero-take (Lose n) p e = absurd (subst (λ (k : ℕ). T (oneOf k (12 ∷ 13 ∷ 14 ∷ []))) e p)
-zero-take (Spoil n) p e = absurd (subst (λ (k : ℕ). T (oneOf k (15 ∷ 18 ∷ 17 ∷ 16 ∷ []))) e p)
+zero-take (Keep n) p e = absurd (subst (λ (k : ℕ). T (oneOf k keeping)) e p)
+zero-take (Lose n) p e = absurd (subst (λ (k : ℕ). T (oneOf k losing)) e p)
+zero-take (Spoil n) p e = absurd (subst (λ (k : ℕ). T (oneOf k spoiling)) e p)
 zero-take (Skip n) p e = absurd (subst (λ (k : ℕ). T (oneOf k (1 ∷ []))) e p)
 zero-take (Take n) p e = ap Take e
 

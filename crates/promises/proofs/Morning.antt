@@ -16,7 +16,9 @@ use Rattle.books.proofs.Frames.{AllSound, never-unsound}
 use Rattle.book.specs.Message.{securityCode}
 use Rattle.feed.specs.Messages.{kind, onMarket, book, statusOf, logonStatus}
 use Rattle.feed.specs.Events.{State, Event, Connect, Arrive, Cut, News, Linked, More, Heartbeat, Message, news, cutFrom, timeOf, onMessage}
-use Rattle.feed.specs.Answers.{Answer, Take, number, arrives, lacksNeed, isMore, ofBook, tests, answerTo}
+use Rattle.feed.specs.Answers.{number, arrives, lacksNeed, isMore, ofBook, lineTests, tableTests, tests, answerTo}
+use Rattle.feed.specs.declared.Answer.{Answer}
+use Rattle.feed.specs.declared.Answer.the-variants.{Take}
 use Rattle.feed.specs.Feeds.{badgeNo, badgeOf}
 use Rattle.feed.specs.Steps.{accepted, handed, outcome}
 use Rattle.feed.specs.declared.Kind.{Kind}
@@ -27,6 +29,7 @@ use Rattle.feed.specs.declared.Status.{Status}
 use Rattle.feed.specs.declared.Status.the-variants.{Opens, Refills, Stays, Closes, Unlisted}
 use Rattle.promises.specs.Runs.{start, after, run, trace, History, noHistory, noteHeard, noteOver, noteStatus, noteTaken, noteNews, note, recall, history, green}
 use Rattle.promises.specs.Demands as D
+use Rattle.promises.specs.Refusals.{ending}
 use Rattle.promises.specs.Demands.{notConnect, isLogon, notLogon}
 use Rattle.promises.proofs.Badges.{badge-green}
 use Rattle.promises.proofs.Soundness.{all-sound}
@@ -44,7 +47,7 @@ unfolding ofBook unsound
 sound-row m t k a = no-second (onMarket book k) _ (no-second (hasEntries m) _ (never-unsound (securityCode m) t a))
 
 no-eighteen : (s : State) (time : ℕ) → AllSound (s .tables .books) → (n : News) → T (notEighteen (answerTo (s .feed) (s .tables) time n))
-unfolding notEighteen tests all onMessage arrives lacksNeed isMore number
+unfolding notEighteen tests lineTests tableTests all onMessage arrives lacksNeed isMore number
 no-eighteen s time a (Linked link) = first-may notEighteen (tests (s .feed) (s .tables) time (Linked link)) (Take 0) tt tt
 no-eighteen s time a More = first-may notEighteen (tests (s .feed) (s .tables) time More) (Take 0) tt tt
 no-eighteen s time a Heartbeat = first-may notEighteen (tests (s .feed) (s .tables) time Heartbeat) (Take 0) tt tt
@@ -81,7 +84,7 @@ kept P g k (f ∷ fs) s h t p =
 noted : (P : History → Type 0) (h : History) (e : Event) (n : ℕ) → P (noteOver h) → P (noteNews (news e) (timeOf e) h) → P (noteHeard (timeOf e) h) → P h → P (note h e n)
 unfolding note
 noted P h e n a b c d =
-    split P (leb 12 n && leb n 18) _ _ (λ t. a) (λ t. split P (eqb n 0) _ _ (λ t. b) (λ t. split P (accepted n) _ _ (λ t. c) (λ t. d)))
+    split P (oneOf n ending) _ _ (λ t. a) (λ t. split P (eqb n 0) _ _ (λ t. b) (λ t. split P (accepted n) _ _ (λ t. c) (λ t. d)))
 
 -- that it is over stays, as long as no connect comes
 Over : History → Type 0
@@ -157,9 +160,9 @@ unfolding Dark
 dark-note h e n t p = noted Dark h e n (and-false (h .up)) (dark-news (news e) (timeOf e) h t p) p p
 
 -- an arrival answered 12 to 18 makes it over
-late : (h : History) (e : Event) (n : ℕ) → T (oneOf n (12 ∷ 13 ∷ 14 ∷ 15 ∷ 16 ∷ 17 ∷ 18 ∷ [])) → note h e n ≡ noteOver h
-unfolding note
-late h e n t = each-has (λ (k : ℕ). note h e k ≡ noteOver h) (12 ∷ 13 ∷ 14 ∷ 15 ∷ 16 ∷ 17 ∷ 18 ∷ []) (refl, (refl, (refl, (refl, (refl, (refl, (refl, tt))))))) n t
+late : (h : History) (e : Event) (n : ℕ) → T (oneOf n ending) → note h e n ≡ noteOver h
+unfolding note oneOf
+late h e n t = each-has (λ (k : ℕ). note h e k ≡ noteOver h) ending (refl, (refl, (refl, (refl, (refl, (refl, (refl, tt))))))) n t
 
 dark-green : (u o v a b : Bool) → (u && not v) ≡ false → (u && not o && not v && a && b) ≡ false
 dark-green false o v a b e = refl

@@ -10,9 +10,11 @@ use Rattle.wire.specs.declared.Unit.{Unit}
 use Rattle.wire.specs.declared.Unit.the-variants as unit
 use Rattle.wire.proofs.Choices.{first-may, each-has}
 use Rattle.feed.specs.Events.{State, Event, Connect, Arrive, Cut, timeOf, News, news, cutFrom, onMessage}
-use Rattle.feed.specs.Answers.{Answer, Keep, Lose, Spoil, Skip, Take, number, arrives, lacksNeed, isMore, tests, answerTo, reply}
+use Rattle.feed.specs.Answers.{number, arrives, lacksNeed, isMore, lineTests, tableTests, tests, answerTo, reply}
 use Rattle.feed.specs.Steps.{act, accepted, usedOf, Outcome, handed, outcome}
-use Rattle.promises.specs.Refusals.{answersTo, feedRefused, refusal}
+use Rattle.feed.specs.declared.Answer.{Answer}
+use Rattle.feed.specs.declared.Answer.the-variants.{Keep, Lose, Spoil, Skip, Take}
+use Rattle.promises.specs.Refusals.{answersTo, keeping, losing, spoiling, feedRefused, refusal}
 
 -- any two outcomes of a step are equal
 pub one-outcome : (s : State) (e : Event) (a b : Outcome) → a ≡ outcome s e → b ≡ outcome s e → a ≡ b
@@ -23,7 +25,7 @@ among e a = oneOf (number a) (answersTo e)
 
 arrival-listed : (s : State) (bytes : List ℕ) (time : ℕ) (u : Unit)
     → T (oneOf (number (answerTo (s .feed) (s .tables) time (cutFrom bytes u))) (answersTo (Arrive bytes time)))
-unfolding among answersTo oneOf number tests all arrives lacksNeed isMore onMessage cutFrom
+unfolding among answersTo oneOf number tests lineTests tableTests all arrives lacksNeed isMore onMessage cutFrom
 arrival-listed s bytes time unit.More = first-may (among (Arrive bytes time)) (tests (s .feed) (s .tables) time News.More) (Take 0) tt tt
 arrival-listed s bytes time unit.Heartbeat = first-may (among (Arrive bytes time)) (tests (s .feed) (s .tables) time News.Heartbeat) (Take 0) tt tt
 arrival-listed s bytes time (unit.Message seq internal size) =
@@ -31,7 +33,7 @@ arrival-listed s bytes time (unit.Message seq internal size) =
 
 -- the answer is one that document 01 has for such a call
 pub answer-listed : (s : State) (e : Event) → T (oneOf (outcome s e .given .answer) (answersTo e))
-unfolding outcome handed among answersTo oneOf number tests all arrives lacksNeed isMore onMessage news timeOf
+unfolding outcome handed among answersTo oneOf number tests lineTests tableTests all arrives lacksNeed isMore onMessage news timeOf
 answer-listed s (Connect link time) = first-may (among (Connect link time)) (tests (s .feed) (s .tables) time (News.Linked link)) (Take 0) tt tt
 answer-listed s (Arrive bytes time) = arrival-listed s bytes time (unitOf bytes)
 answer-listed s (Cut seq internal m time) =
@@ -39,14 +41,14 @@ answer-listed s (Cut seq internal m time) =
 
 -- which numbers stand beside which kind of answer
 unfoldable pub proper : Answer → Bool
-proper (Keep n) = oneOf n (10 ∷ 11 ∷ 20 ∷ 3 ∷ [])
-proper (Lose n) = oneOf n (12 ∷ 13 ∷ 14 ∷ [])
-proper (Spoil n) = oneOf n (15 ∷ 18 ∷ 17 ∷ 16 ∷ [])
+proper (Keep n) = oneOf n keeping
+proper (Lose n) = oneOf n losing
+proper (Spoil n) = oneOf n spoiling
 proper (Skip n) = oneOf n (1 ∷ [])
 proper (Take n) = oneOf n (2 ∷ 0 ∷ [])
 
 pub reply-proper : (s : State) (e : Event) → T (proper (reply s e))
-unfolding proper oneOf tests all
+unfolding proper oneOf tests lineTests tableTests all
 reply-proper s e = first-may proper (tests (s .feed) (s .tables) (timeOf e) (news e)) (Take 0) tt tt
 
 -- what is to be shown of an answer made of a number
@@ -55,9 +57,9 @@ Refuses s e made n = accepted n ≡ false → handed (made n) s e ≡ refusal n 
 
 refuses : (s : State) (e : Event) (a : Answer) → T (proper a) → accepted (number a) ≡ false → handed a s e ≡ refusal (number a) s
 unfolding proper handed Refuses number act usedOf feedRefused oneOf
-refuses s e (Keep n) p = each-has (Refuses s e Keep) (10 ∷ 11 ∷ 20 ∷ 3 ∷ []) (λ h. refl, (λ h. refl, (λ h. refl, (λ h. refl, tt)))) n p
-refuses s e (Lose n) p = each-has (Refuses s e Lose) (12 ∷ 13 ∷ 14 ∷ []) (λ h. refl, (λ h. refl, (λ h. refl, tt))) n p
-refuses s e (Spoil n) p = each-has (Refuses s e Spoil) (15 ∷ 18 ∷ 17 ∷ 16 ∷ []) (λ h. refl, (λ h. refl, (λ h. refl, (λ h. refl, tt)))) n p
+refuses s e (Keep n) p = each-has (Refuses s e Keep) keeping (λ h. refl, (λ h. refl, (λ h. refl, (λ h. refl, tt)))) n p
+refuses s e (Lose n) p = each-has (Refuses s e Lose) losing (λ h. refl, (λ h. refl, (λ h. refl, tt))) n p
+refuses s e (Spoil n) p = each-has (Refuses s e Spoil) spoiling (λ h. refl, (λ h. refl, (λ h. refl, (λ h. refl, tt)))) n p
 refuses s e (Skip n) p = each-has (Refuses s e Skip) (1 ∷ []) (λ h. absurd (true≢false h), tt) n p
 refuses s e (Take n) p = each-has (Refuses s e Take) (2 ∷ 0 ∷ []) (λ h. absurd (true≢false h), (λ h. absurd (true≢false h), tt)) n p
 

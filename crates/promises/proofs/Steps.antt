@@ -1,23 +1,27 @@
 -- From six facts about an invariant to every run: the cases of events and answers, gone through once. Assumes nothing.
 use Prim.Native.Nat.{ℕ}
 use mathlib.Core.Path.{_≡_, refl, sym, subst}
-use mathlib.Core.Bool.{Bool, true, false, cond, not, _&&_, true≢false}
+use mathlib.Core.Bool.{Bool, true, false, cond, not, true≢false}
 use mathlib.Core.List.{List, [], _∷_}
-use lib.Dec.{T, leb, eqb}
+use lib.Dec.{T, eqb}
 use borrow.Author.Tests.{not-false}
 use Rattle.wire.specs.Choice.{oneOf, first, all}
-use Rattle.wire.proofs.Choices.{first-may, first-skips, each-has}
+use Rattle.wire.proofs.Choices.{testOf, noneUpto, first-may, first-skips, each-has}
 use Rattle.books.specs.Table.{unsound, noSlot, misfits}
 use Rattle.feed.specs.Messages.{kind, onMarket, book, wrongSize, listed}
 use Rattle.feed.specs.Feeds.{inPhase, heardAt, wholeIs}
 use Rattle.feed.specs.Events.{State, Event, News, Linked, More, Heartbeat, Message, news, timeOf, onMessage}
-use Rattle.feed.specs.Answers.{Answer, Keep, Lose, Spoil, Skip, Take, number, arrives, lacksNeed, isMore, isNext, allowed, ofBook, passed, tests, answerTo, reply}
+use Rattle.feed.specs.Answers.{number, arrives, lacksNeed, isMore, isNext, allowed, ofBook, passed, lineTests, tableTests, tests, answerTo, reply}
 use Rattle.feed.specs.Steps.{onFeed, connected, advanced, taken, act, accepted, handed, outcome}
 use Rattle.feed.specs.declared.Phase.the-variants.{Lost}
 use Rattle.feed.specs.declared.Kind.{Kind}
 use Rattle.feed.specs.declared.Kind.the-variants.{Session, Market}
 use Rattle.feed.specs.declared.Datum.the-variants.{Book, Other}
 use Rattle.feed.specs.declared.Link.{Link}
+use Rattle.feed.specs.declared.Answer.{Answer}
+use Rattle.feed.specs.declared.Answer.the-variants.{Keep, Lose, Spoil, Skip, Take}
+use Rattle.feed.proofs.Laws.{numbered, isTake}
+use Rattle.promises.specs.Refusals.{keeping, losing, spoiling, ending}
 use Rattle.promises.specs.Runs.{after, run, trace, History, noteConnect, noteHeard, noteOver, noteTaken, noteNews, note, recall}
 use Rattle.promises.proofs.Refused.{proper, reply-proper}
 
@@ -31,26 +35,21 @@ pub record Fine (s : State) (time seq internal : ℕ) (m : List ℕ) : Type 0 wh
   pub room : ofBook (kind m) (noSlot m (s .tables .books)) ≡ false
   pub fit : ofBook (kind m) (misfits time m (s .tables .books)) ≡ false
 
-isTake : Answer → Bool
-isTake (Keep n) = false
-isTake (Lose n) = false
-isTake (Spoil n) = false
-isTake (Skip n) = false
-isTake (Take n) = true
-
 pub fine : (s : State) (time seq internal : ℕ) (m : List ℕ) (n : ℕ) → answerTo (s .feed) (s .tables) time (Message seq internal m) ≡ Take n → Fine s time seq internal m
-unfolding isTake tests all onMessage
+unfolding isTake tests lineTests tableTests onMessage number
 fine s time seq internal m n e =
     let ts : List (Bool × Answer) = tests (s .feed) (s .tables) time (Message seq internal m) in
     let h : T (isTake (first ts (Take 0))) = rw e tt in
+    let fails : (k : ℕ) → T (noneUpto isTake (numbered k) ts) → testOf (numbered k) ts ≡ false =
+    λ k z. first-skips isTake (numbered k) ts (Take 0) h z in
     record {
-      size = first-skips isTake ts (Take 0) h 4 tt;
-      next = not-false (isNext (s .feed) seq) (first-skips isTake ts (Take 0) h 5 tt);
-      allow = not-false (allowed (kind m) (s .feed .phase) internal) (first-skips isTake ts (Take 0) h 6 tt);
-      fields = not-false (listed (kind m) m) (first-skips isTake ts (Take 0) h 8 tt);
-      sound = first-skips isTake ts (Take 0) h 9 tt;
-      room = first-skips isTake ts (Take 0) h 10 tt;
-      fit = first-skips isTake ts (Take 0) h 11 tt;
+      size = fails 12 tt;
+      next = not-false (isNext (s .feed) seq) (fails 13 tt);
+      allow = not-false (allowed (kind m) (s .feed .phase) internal) (fails 14 tt);
+      fields = not-false (listed (kind m) m) (fails 15 tt);
+      sound = fails 18 tt;
+      room = fails 17 tt;
+      fit = fails 16 tt;
     }
 
 -- a property of the messages that come
@@ -104,7 +103,7 @@ isTwo (Skip n) = false
 isTwo (Take n) = eqb n 2
 
 two-passed : (s : State) (time : ℕ) (n : News) → answerTo (s .feed) (s .tables) time n ≡ Take 2 → T (onMessage (λ seq internal m. passed (kind m)) n)
-unfolding isTwo tests all onMessage arrives lacksNeed isMore
+unfolding isTwo tests lineTests tableTests all onMessage arrives lacksNeed isMore
 two-passed s time (Linked link) e =
     absurd (subst (λ (a : Answer). T (not (isTwo a))) e (first-may (λ a. not (isTwo a)) (tests (s .feed) (s .tables) time (Linked link)) (Take 0) tt tt))
 two-passed s time More e = absurd (subst (λ (a : Answer). T (not (isTwo a))) e (first-may (λ a. not (isTwo a)) (tests (s .feed) (s .tables) time More) (Take 0) tt tt))
@@ -125,7 +124,7 @@ is-yes false h = absurd h
 module _ (P : List ℕ → Type 0) (I : State → History → Type 0) (K : Keeps P I) where
   -- what is to be shown of an answer made of a number
   Goes : State → History → ℕ → News → (ℕ → Answer) → ℕ → Type 0
-  Goes s h time n made k = I (act (made k) time n s) (cond (leb 12 k && leb k 18) (noteOver h) (cond (eqb k 0) (noteNews n time h) (cond (accepted k) (noteHeard time h) h)))
+  Goes s h time n made k = I (act (made k) time n s) (cond (oneOf k ending) (noteOver h) (cond (eqb k 0) (noteNews n time h) (cond (accepted k) (noteHeard time h) h)))
 
   on-two : (s : State) (h : History) (time : ℕ) (n : News) → OfNews P n → I s h → answerTo (s .feed) (s .tables) time n ≡ Take 2 → I (taken time n s) (noteHeard time h)
   unfolding onMessage
@@ -145,11 +144,11 @@ module _ (P : List ℕ → Type 0) (I : State → History → Type 0) (K : Keeps
   on-zero s h time (Message seq internal m) p i e = K .taken s h time seq internal m p (fine s time seq internal m 0 e) i
 
   on-answer : (s : State) (h : History) (time : ℕ) (n : News) → OfNews P n → I s h → (a : Answer) → answerTo (s .feed) (s .tables) time n ≡ a → T (proper a)
-      → I (act a time n s) (cond (leb 12 (number a) && leb (number a) 18) (noteOver h) (cond (eqb (number a) 0) (noteNews n time h) (cond (accepted (number a)) (noteHeard time h) h)))
+      → I (act a time n s) (cond (oneOf (number a) ending) (noteOver h) (cond (eqb (number a) 0) (noteNews n time h) (cond (accepted (number a)) (noteHeard time h) h)))
   unfolding Goes act number proper oneOf
-  on-answer s h time n p i (Keep k) e q = each-has (Goes s h time n Keep) (10 ∷ 11 ∷ 20 ∷ 3 ∷ []) (i, (i, (i, (i, tt)))) k q
-  on-answer s h time n p i (Lose k) e q = let l = K .lost s h i in each-has (Goes s h time n Lose) (12 ∷ 13 ∷ 14 ∷ []) (l, (l, (l, tt))) k q
-  on-answer s h time n p i (Spoil k) e q = let l = K .spoilt s h i in each-has (Goes s h time n Spoil) (15 ∷ 18 ∷ 17 ∷ 16 ∷ []) (l, (l, (l, (l, tt)))) k q
+  on-answer s h time n p i (Keep k) e q = each-has (Goes s h time n Keep) keeping (i, (i, (i, (i, tt)))) k q
+  on-answer s h time n p i (Lose k) e q = let l = K .lost s h i in each-has (Goes s h time n Lose) losing (l, (l, (l, tt))) k q
+  on-answer s h time n p i (Spoil k) e q = let l = K .spoilt s h i in each-has (Goes s h time n Spoil) spoiling (l, (l, (l, (l, tt)))) k q
   on-answer s h time n p i (Skip k) e q = each-has (Goes s h time n Skip) (1 ∷ []) (K .skipped s h time i, tt) k q
   on-answer s h time n p i (Take k) e q =
       each-has (λ (j : ℕ). answerTo (s .feed) (s .tables) time n ≡ Take j → Goes s h time n Take j) (2 ∷ 0 ∷ [])

@@ -21,8 +21,9 @@ use Rattle.books.specs.Table.{placeIn, block, bookAt}
 use Rattle.feed.specs.Messages.{kind}
 use Rattle.feed.specs.Feeds.{badgeNo, badgeOf}
 use Rattle.feed.specs.Events.{State, Event, Connect, Arrive, Cut, Message, news, timeOf, onMessage}
-use Rattle.feed.specs.Answers.{Answer, number, tests}
+use Rattle.feed.specs.Answers.{number, tests}
 use Rattle.feed.specs.Steps.{accepted, Outcome, outcome}
+use Rattle.feed.specs.declared.Answer.{Answer}
 use Rattle.feed.specs.declared.Kind.{Kind}
 use Rattle.feed.specs.declared.Kind.the-variants.{Session, Market}
 use Rattle.feed.specs.declared.Session.the-variants.{SendKey, Logon, Logout, Refresh, Complete, Request}

@@ -1,7 +1,7 @@
 -- Which answers a call can have, and what becomes of the feed where it is not accepted (document 01, "Answer numbers"). Assumes nothing.
 use Prim.Native.Nat.{ℕ}
 use mathlib.Core.Bool.{false, cond}
-use mathlib.Core.List.{List, [], _∷_}
+use mathlib.Core.List.{List, [], _∷_, _++_}
 use Rattle.wire.specs.Choice.{oneOf}
 use Rattle.feed.specs.Feeds.{inPhase, wholeIs}
 use Rattle.feed.specs.Events.{State, Event, Connect, Arrive, Cut}
@@ -15,11 +15,24 @@ answersTo (Connect link time) = 10 ∷ 20 ∷ 0 ∷ []
 answersTo (Arrive bytes time) = 10 ∷ 11 ∷ 3 ∷ 12 ∷ 13 ∷ 14 ∷ 1 ∷ 15 ∷ 18 ∷ 17 ∷ 16 ∷ 2 ∷ 0 ∷ []
 answersTo (Cut seq internal m time) = 10 ∷ 11 ∷ 12 ∷ 13 ∷ 14 ∷ 1 ∷ 15 ∷ 18 ∷ 17 ∷ 16 ∷ 2 ∷ 0 ∷ []
 
+-- the answers that leave the feed as it is, those that make it Lost, and those that make it Lost and not whole; "12 to 18" are the last two
+abbrev pub keeping : List ℕ
+keeping = 10 ∷ 11 ∷ 20 ∷ 3 ∷ []
+
+abbrev pub losing : List ℕ
+losing = 12 ∷ 13 ∷ 14 ∷ []
+
+abbrev pub spoiling : List ℕ
+spoiling = 15 ∷ 16 ∷ 17 ∷ 18 ∷ []
+
+abbrev pub ending : List ℕ
+ending = losing ++ spoiling
+
 -- the column "Feed afterwards" for the answers other than 0, 1 and 2: unchanged; Lost; Lost and not whole
 unfoldable pub feedRefused : ℕ → Feed → Feed
 feedRefused n f =
-    cond (oneOf n (10 ∷ 11 ∷ 20 ∷ 3 ∷ [])) f
-    (cond (oneOf n (12 ∷ 13 ∷ 14 ∷ [])) (inPhase Lost f)
+    cond (oneOf n keeping) f
+    (cond (oneOf n losing) (inPhase Lost f)
     (inPhase Lost (wholeIs false f)))
 
 -- all that a call that is not accepted hands back: no byte is used, and every word is as it was

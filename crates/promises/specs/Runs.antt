@@ -5,6 +5,7 @@ use mathlib.Core.List.{List, [], _∷_, _++_}
 use mathlib.Core.Option.{Option, none, some}
 use lib.ListN.{replicate}
 use lib.Dec.{leb, eqb}
+use Rattle.wire.specs.Choice.{oneOf}
 use Rattle.book.specs.Message.{securityCode}
 use Rattle.book.specs.Walk.{Book, bookAfter}
 use Rattle.feed.specs.Messages.{kind, statusOf, logonStatus}
@@ -18,6 +19,7 @@ use Rattle.feed.specs.declared.Datum.the-variants as datum
 use Rattle.feed.specs.declared.Status.{Status}
 use Rattle.feed.specs.declared.Status.the-variants.{Opens, Refills, Stays, Closes, Unlisted}
 use Rattle.feed.specs.declared.Link.{Link}
+use Rattle.promises.specs.Refusals.{ending}
 
 -- "Start with a new feed and a zeroed table": a new feed of any limit asked for, and n zero words
 abbrev pub zeroed : ℕ → Tables
@@ -108,7 +110,7 @@ noteNews (Message seq internal m) time h = noteHeard time (noteTaken (kind m) ti
 -- the history after one event more, answered n: 12 to 18; 0; 1 or 2; anything else
 unfoldable pub note : History → Event → ℕ → History
 note h e n =
-    cond (leb 12 n && leb n 18) (noteOver h)
+    cond (oneOf n ending) (noteOver h)
     (cond (eqb n 0) (noteNews (news e) (timeOf e) h)
     (cond (accepted n) (noteHeard (timeOf e) h)
     h))

@@ -7,7 +7,7 @@ use borrow.Author.Needs.{needs}
 use borrow.Author.Tests.{eq-eqb, ne-eqb}
 use Rattle.feed.specs.Feeds.{phaseNo, phaseOf, newGiven}
 use Rattle.feed.specs.Events.{Tables, Event, Connect}
-use Rattle.feed.specs.Steps.{stateOf, outOf, Outcome, outcome}
+use Rattle.feed.specs.Steps.{lent, stateOf, outOf, Outcome, outcome}
 use Rattle.feed.specs.declared.Phase.{Phase}
 use Rattle.feed.specs.declared.Link.{Link}
 use Rattle.feed.specs.declared.Link.the-variants.{Fresh, Resuming}
@@ -63,7 +63,7 @@ pub connect-plain : (c : MmdhFeed) (f : Feed) (resuming time : ℕ) (link : Link
 connect-plain c f resuming time link g r a b e h x = h ∙ rw (← a, ← b) (ap (λ (o : Outcome). plainGiven (o .given)) (e x))
 
 pub arrive-plain : (c : MmdhFeed) (f : Feed) (t u : List ℕ) (e : Event) (g : Given) (r : MmdhGiven) → f ≡ feedOf c
-    → outOf g u ≡ outcome (stateOf f t) e → r ≡ plainGiven g → plainOut r u ≡ plainOutcome (outcome (stateOf (feedOf c) t) e)
+    → outOf g (lent u) ≡ outcome (stateOf f (lent t)) e → r ≡ plainGiven g → plainOut r u ≡ plainOutcome (outcome (stateOf (feedOf c) (lent t)) e)
 arrive-plain c f t u e g r a q h = rw (h, ← a) (ap plainOutcome q)
 
 pub row-plain : (x r : RowRead) → r ≡ x → _≡_ {A = MmdhRow} (record { answer = r .answer; price = r .price; quantity = r .quantity; orders = r .orders }) (plainRow x)

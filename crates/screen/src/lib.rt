@@ -3,7 +3,7 @@ ghost use mathlib.Core.Path.{_≡_};
 ghost use Rattle.books.specs.Reading.{readRow};
 ghost use Rattle.feed.specs.Feeds.{newGiven, plainBadge};
 ghost use Rattle.feed.specs.Events.{Tables, Connect, Arrive, Cut};
-ghost use Rattle.feed.specs.Steps.{stateOf, outcome};
+ghost use Rattle.feed.specs.Steps.{lent, stateOf, outcome};
 ghost use Rattle.screen.specs.Plain.{yes, bit, linkOf, feedOf, plainFeed, plainGiven, plainOut, plainOutcome, plainRow};
 use books::RowRead;
 use feed::Feed;
@@ -143,7 +143,7 @@ pub extern "C" fn mmdh_arrive(
     bytes: &[u8],
     time: u64,
 ) -> MmdhGiven
-    ensures { λ r. ⌜ plainOut r (now (table .exit)) ≡ plainOutcome (outcome (stateOf (feedOf feed) (now (table .entry))) (Arrive (now (bytes .entry)) time)) ⌝ }
+    ensures { λ r. ⌜ plainOut r (now (table .exit)) ≡ plainOutcome (outcome (stateOf (feedOf feed) (lent (now (table .entry)))) (Arrive (now (bytes .entry)) time)) ⌝ }
 {
     plain_given(feed_of(feed).arrive(table, bytes, time))
 }
@@ -158,7 +158,7 @@ pub extern "C" fn mmdh_arrive_cut(
     message: &[u8],
     time: u64,
 ) -> MmdhGiven
-    ensures { λ r. ⌜ plainOut r (now (table .exit)) ≡ plainOutcome (outcome (stateOf (feedOf feed) (now (table .entry))) (Cut seq internal (now (message .entry)) time)) ⌝ }
+    ensures { λ r. ⌜ plainOut r (now (table .exit)) ≡ plainOutcome (outcome (stateOf (feedOf feed) (lent (now (table .entry)))) (Cut seq internal (now (message .entry)) time)) ⌝ }
 {
     plain_given(feed_of(feed).arrive_cut(table, seq, internal, message, time))
 }

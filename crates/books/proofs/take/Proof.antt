@@ -7,15 +7,11 @@ take-spec =
     tie.close
     (tie.spec
     (λ c κs. search turning)
-    (λ c κs. search turning)
-    (λ c. search turning)
-    (λ c. search turning)
-    (λ c. search turning)
-    (λ c κs. search turning)
-    (λ c κs. search turning)
     (λ c. search turning)
     (λ c κs. search turning)
     (λ c. search turning)
     (λ c. search turning)
+    (λ c. search turning)
+    (λ c κs. search turning)
     (λ c. search turning)
     (λ c. search turning))

@@ -7,8 +7,8 @@ arrive-spec =
     tie.close
     (tie.spec
     (λ c κs. search rows)
-    (λ c κs. search rows)
     (λ c. search rows)
+    (λ c κs. search rows)
     (λ c κs. search rows)
     (λ c. search rows)
     (λ c. search rows)

@@ -25,5 +25,4 @@ done-spec =
     (λ c. search rows)
     (λ c. search rows)
     (λ c. search rows)
-    (λ c. search rows)
     (λ c. search rows))
