@@ -1,25 +1,26 @@
 -- The tests of an entry, as the code makes them and as specs/Sides has them. Assumes nothing.
-use Prim.Native.Nat.{ℕ, _+_, _-_, _≤_, _<_}
+use Prim.Native.Nat.{ℕ, suc, _+_, _-_, _≤_, _<_}
 use mathlib.Core.Path.{_≡_, refl, ap, sym, _∙_}
-use mathlib.Core.Bool.{Bool, true, false, cond, not, _&&_, _||_, false≢true}
-use mathlib.Core.List.{List, [], _∷_}
+use mathlib.Core.Bool.{Bool, true, false, cond, not, _&&_, _||_, or-true, false≢true}
+use mathlib.Core.List.{List, [], _∷_, _++_}
 use native.Mathlib.Decide.{decLe, decLt}
 use native.Mathlib.Omega.{arith}
 use lib.Dec.{leb, ltb, eqb}
-use lib.ListN.{length, getD, set}
+use lib.ListN.{length, take, drop, getD, set, length-set, length-take}
 use borrow.Author.Needs.{needs}
-use borrow.Author.Tests.{lt-ltb, le-ltb, le-leb, lt-leb, ne-eqb, leb-true, eqb-true}
+use borrow.Author.Tests.{lt-ltb, le-ltb, le-leb, lt-leb, eq-eqb, ne-eqb, leb-true, eqb-true, eqb-false}
 use Rattle.wire.specs.Choice.{pick}
 use Rattle.wire.proofs.Bools.{both, cond-same, cond-test}
 use Rattle.book.specs.Message.{listedRank}
 use Rattle.book.specs.Sides.{better, noRow, rowAt, has, newFits, newRows, changeFits, changeRows, deleteFits, deleteRows, fits, rowsAfter}
-use Rattle.book.specs.Arrays.{live, asSide, Padded, fitsAt}
+use Rattle.book.specs.Words.{pad}
+use Rattle.book.specs.Arrays.{Side, live, Padded, fitsAt, wayOf, tenAfter, countAfter}
 use Rattle.book.specs.declared.Way.{Way}
 use Rattle.book.specs.declared.Way.the-variants.{Bid, Offer}
 use Rattle.book.specs.declared.Row.{Row}
-use Rattle.book.specs.declared.Side.{Side}
 use Rattle.book.specs.declared.Entry.{Entry}
-use Rattle.book.proofs.Pads.{live-n, live-at}
+use Rattle.book.proofs.Shift.{ins, del, length-ins, length-del}
+use Rattle.book.proofs.Pads.{live-n, live-at, pad-new, pad-change, pad-delete}
 
 pub bid-better : (w : Way) (a b : ℕ) → w ≡ Bid → ltb b a ≡ better w a b
 unfolding better
@@ -129,7 +130,7 @@ fit-rank w e s h =
     let q = both (leb 1 (e .level)) (leb (e .level) 10) r in
     (leb-true 1 (e .level) (q .0), leb-true (e .level) 10 (q .1))
 
--- what an entry of each action that fits tells, and the side after it
+-- what an entry of each action that fits tells
 module _ (w : Way) (e : Entry) (s : List Row) (h : fits w e s ≡ true) where
   fit-test : pick (e .action) ((0, newFits w (e .level) (e .row) s) ∷ (1, changeFits (e .level) (e .row) s) ∷ (2, deleteFits (e .level) s) ∷ []) false ≡ true
   unfolding fits
@@ -156,40 +157,77 @@ module _ (w : Way) (e : Entry) (s : List Row) (h : fits w e s ≡ true) where
       go true q r = (eqb-true (e .action) 2 q, leb-true (e .level) (length s) r)
       go false q r = absurd (false≢true r)
 
+  -- it is new, a change or a delete
+  by-action : (P : Type 0) → (e .action ≡ 0 → P) → (e .action ≡ 1 → P) → ((e .action ≡ 2) × (e .level ≤ length s) → P) → P
+  by-action P f g k = go (eqb (e .action) 0) refl (eqb (e .action) 1) refl
+    where
+      go : (x : Bool) → eqb (e .action) 0 ≡ x → (y : Bool) → eqb (e .action) 1 ≡ y → P
+      go true a y b = f (eqb-true (e .action) 0 a)
+      go false a true b = g (eqb-true (e .action) 1 b)
+      go false a false b = k (fit-delete (eqb-false (e .action) 0 a) (eqb-false (e .action) 1 b))
+
+-- the ten rows and the count that the code makes are those of the rows after the entry
 module _ (w : Way) (s : Side) (e : Entry) (p : Padded s) (h : fits w e (live s) ≡ true) where
   rank : (1 ≤ e .level) × (e .level ≤ 10)
   rank = fit-rank w e (live s) h
 
-  pub level-one : 1 ≤ e .level
-  level-one = rank .0
+  long-live : length (live s) ≡ s .n
+  long-live = live-n s p
 
-  pub put-first : e .action ≡ 0 → e .level - 1 ≤ s .n
-  put-first a = omega (arith, fit-new w e (live s) h a, live-n s p)
+  level-is : e .level ≡ suc (e .level - 1)
+  level-is = omega (arith, rank)
 
-  pub put-last : e .action ≡ 0 → e .level - 1 < 10
-  put-last a = omega (arith, rank)
+  ten-new : e .action ≡ 0 → tenAfter e (s .rows) ≡ pad (rowsAfter e (live s))
+  unfolding tenAfter rowsAfter pick newRows
+  ten-new a = rw a (ap (λ (x : List Row). take 10 (ins (e .level - 1) (e .row) x)) (p .zeros) ∙ pad-new (e .level - 1) (e .row) (live s) (omega (arith, fit-new w e (live s) h a)))
 
-  pub put-after : (r : Side) → e .action ≡ 0 → r ≡ asSide (newRows (e .level - 1 + 1) (e .row) (live s)) → r ≡ asSide (rowsAfter e (live s))
-  unfolding rowsAfter pick
-  put-after r a q =
-      let k : e .level - 1 + 1 ≡ e .level = omega (arith, rank) in
-      q ∙ rw (k, a)
+  ten-change : e .action ≡ 1 → tenAfter e (s .rows) ≡ pad (rowsAfter e (live s))
+  unfolding tenAfter rowsAfter pick changeRows
+  ten-change a =
+      let c = fit-change w e (live s) h a in
+      rw (a, ← c .1) (ap (λ (x : List Row). set x (e .level - 1) (e .row)) (p .zeros) ∙ pad-change (e .level - 1) (e .row) (live s) (omega (arith, c .0, rank)) (omega (arith, rank)))
 
-  pub set-room : e .action ≡ 1 → e .level - 1 < s .n
-  set-room a = omega (arith, fit-change w e (live s) h a .0, live-n s p, rank)
+  ten-delete : (e .action ≡ 2) × (e .level ≤ length (live s)) → tenAfter e (s .rows) ≡ pad (rowsAfter e (live s))
+  unfolding tenAfter rowsAfter pick deleteRows
+  ten-delete a =
+      rw (a .0) (ap (λ (m : ℕ). (take (e .level - 1) (s .rows) ++ drop m (s .rows)) ++ (noRow ∷ [])) level-is
+      ∙ ap (λ (x : List Row). del (e .level - 1) x ++ (noRow ∷ [])) (p .zeros)
+      ∙ pad-delete (e .level - 1) (live s) (omega (arith, a .1, rank)) (omega (arith, long-live, p .few))
+      ∙ ap (λ (m : ℕ). pad (take (e .level - 1) (live s) ++ drop m (live s))) (sym level-is))
 
-  pub set-after : (r : Side) → e .action ≡ 1 → r ≡ asSide (set (live s) (e .level - 1) (e .row)) → r ≡ asSide (rowsAfter e (live s))
-  unfolding rowsAfter pick changeRows
-  set-after r a q = q ∙ rw (a, ← fit-change w e (live s) h a .1)
+  pub ten-after : tenAfter e (s .rows) ≡ pad (rowsAfter e (live s))
+  ten-after = by-action w e (live s) h (tenAfter e (s .rows) ≡ pad (rowsAfter e (live s))) ten-new ten-change ten-delete
 
-  pub drop-room : (e .action ≡ 0 → ⊥) → (e .action ≡ 1 → ⊥) → e .level - 1 < s .n
-  drop-room a b = omega (arith, fit-delete w e (live s) h a b .1, live-n s p, rank)
+  length-new : e .action ≡ 0 → countAfter (e .action) (s .n) ≡ length (rowsAfter e (live s))
+  unfolding countAfter rowsAfter pick newRows
+  length-new a =
+      rw (a, length-take 10 (ins (e .level - 1) (e .row) (live s)), length-ins noRow (live s) (e .level - 1) (e .row) (omega (arith, fit-new w e (live s) h a)), long-live)
 
-  pub drop-after : (r : Side) → (e .action ≡ 0 → ⊥) → (e .action ≡ 1 → ⊥) → r ≡ asSide (deleteRows (e .level - 1 + 1) (live s)) → r ≡ asSide (rowsAfter e (live s))
-  unfolding rowsAfter pick
-  drop-after r a b q =
-      let k : e .level - 1 + 1 ≡ e .level = omega (arith, rank) in
-      q ∙ rw (k, fit-delete w e (live s) h a b .0)
+  length-change : e .action ≡ 1 → countAfter (e .action) (s .n) ≡ length (rowsAfter e (live s))
+  unfolding countAfter rowsAfter pick changeRows
+  length-change a = rw (a, length-set, long-live)
+
+  length-delete : (e .action ≡ 2) × (e .level ≤ length (live s)) → countAfter (e .action) (s .n) ≡ length (rowsAfter e (live s))
+  unfolding countAfter rowsAfter pick deleteRows
+  length-delete a =
+      rw (a .0) (ap (λ (m : ℕ). m - 1) (sym long-live) ∙ sym (length-del noRow (live s) (e .level - 1) (omega (arith, a .1, rank)))
+      ∙ ap (λ (m : ℕ). length (take (e .level - 1) (live s) ++ drop m (live s))) (sym level-is))
+
+  pub count-is : countAfter (e .action) (s .n) ≡ length (rowsAfter e (live s))
+  count-is = by-action w e (live s) h (countAfter (e .action) (s .n) ≡ length (rowsAfter e (live s))) length-new length-change length-delete
+
+  -- what is no new row has a row to stand at
+  pub has-one : (eqb (e .action) 0 || leb 1 (s .n)) ≡ true
+  has-one = by-action w e (live s) h ((eqb (e .action) 0 || leb 1 (s .n)) ≡ true) (λ a. rw (eq-eqb (e .action) 0 a)) (λ a. one (omega (arith, fit-change w e (live s) h a .0, rank, long-live))) (λ a. one (omega (arith, a .1, rank, long-live)))
+    where
+      one : 1 ≤ s .n → (eqb (e .action) 0 || leb 1 (s .n)) ≡ true
+      one m = rw (le-leb 1 (s .n) m) (or-true (eqb (e .action) 0))
+
+pub way-bid : (side : ℕ) → side ≡ 0 → Bid ≡ wayOf side
+way-bid side e = rw (eq-eqb side 0 e)
+
+pub way-offer : (side : ℕ) → (side ≡ 0 → ⊥) → Offer ≡ wayOf side
+way-offer side e = rw (ne-eqb side 0 e)
 
 pub ruleset fitting = (
   needs,
@@ -206,12 +244,6 @@ pub ruleset fitting = (
   is-far,
   is-change,
   is-delete,
-  level-one,
-  put-first,
-  put-last,
-  put-after,
-  set-room,
-  set-after,
-  drop-room,
-  drop-after,
+  way-bid,
+  way-offer,
 )

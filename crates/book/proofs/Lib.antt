@@ -1,5 +1,6 @@
 pub mod Shift
 pub mod Pads
+pub mod Fills
 pub mod Moves
 pub mod Fits
 pub mod Walks

@@ -1,5 +1,5 @@
 -- A side's ten rows are its rows and zero rows behind them: what is done to the one is what is done to the other. Assumes nothing.
-use Prim.Native.Nat.{ℕ, suc, _+_, _-_, _≤_, _<_}
+use Prim.Native.Nat.{ℕ, _+_, _-_, _≤_, _<_}
 use mathlib.Core.Path.{_≡_, refl, ap, sym, _∙_}
 use mathlib.Core.List.{List, [], _∷_, _++_}
 use native.Mathlib.Omega.{arith}
@@ -7,10 +7,9 @@ use lib.ListN.{length, take, getD, set, length-append, getD-replicate}
 use lib.Seq.{take-take, take-set-lt, set-append-left, take-suc, getD-append-add, length-take-le, getD-take, take-append-seam}
 use Rattle.book.specs.Sides.{noRow}
 use Rattle.book.specs.Words.{noRows, pad}
-use Rattle.book.specs.Arrays.{live, asSide, Padded}
+use Rattle.book.specs.Arrays.{Side, live, Padded}
 use Rattle.book.specs.declared.Row.{Row}
-use Rattle.book.specs.declared.Side.{Side}
-use Rattle.book.proofs.Shift.{ins, del, take-ins, take-over, del-take, ins-append, del-append, length-del, getD-del, ins-snoc}
+use Rattle.book.proofs.Shift.{ins, del, take-ins, take-over, del-take, ins-append, del-append, length-del}
 
 ten : length noRows ≡ 10
 unfolding noRows
@@ -50,19 +49,6 @@ pad-delete k l h t =
     ap (λ (x : List Row). x ++ (noRow ∷ [])) (del-take noRow 9 k (l ++ noRows) (omega arith) ∙ ap (take 9) (del-append noRow k l noRows h))
     ∙ tenth (del k l) (omega (arith, length-del noRow l k h))
 
--- the same with the zero row put in right behind the last row
-pub pad-deleted : (k : ℕ) (l : List Row) → k < length l → length l ≤ 10 → ins (length l - 1) noRow (del k (pad l)) ≡ pad (del k l)
-pad-deleted k l h t =
-    let n = length-pad l in
-    let d = length-del noRow (pad l) k (omega arith) in
-    ins-snoc noRow (length l - 1) (del k (pad l)) (omega arith)
-    (λ j s m. getD-del noRow (pad l) k j (omega arith) (omega arith) ∙ pad-behind l (suc j) (omega arith) (omega arith))
-    ∙ pad-delete k l h t
-
--- a side is its count and its rows
-pub side-is : (s t : Side) → s .n ≡ t .n → s .rows ≡ t .rows → s ≡ t
-side-is s t a b = λ i. record { n = a i; rows = b i }
-
 module _ (s : Side) (p : Padded s) where
   pub padded-ten : length (s .rows) ≡ 10
   padded-ten = ap length (p .zeros) ∙ length-pad (live s)
@@ -76,9 +62,9 @@ module _ (s : Side) (p : Padded s) where
   pub behind : (j : ℕ) → s .n ≤ j → j < 10 → getD (s .rows) j noRow ≡ noRow
   behind j h t = ap (λ (x : List Row). getD x j noRow) (p .zeros) ∙ pad-behind (live s) j (omega (arith, live-n)) t
 
--- a side made of at most ten rows has those rows, and is padded
-pub live-of : (l : List Row) → length l ≤ 10 → live (asSide l) ≡ l
+-- at most ten rows and zero rows behind them have those rows, and are padded
+pub live-of : (l : List Row) → length l ≤ 10 → take (length l) (pad l) ≡ l
 live-of l h = take-take (length l) 10 (l ++ noRows) h ∙ take-append-seam l noRows
 
-pub padded-of : (l : List Row) → length l ≤ 10 → Padded (asSide l)
+pub padded-of : (l : List Row) → length l ≤ 10 → Padded (record { n = length l; rows = pad l })
 padded-of l h = record { few = h; zeros = ap pad (sym (live-of l h)) }

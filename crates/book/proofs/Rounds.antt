@@ -18,13 +18,13 @@ use Rattle.book.specs.Sides.{noRow}
 use Rattle.book.specs.Walk.{Book}
 use Rattle.book.specs.Words.{bidCount, offerCount, spareWord, bidsAt, offersAt, rowOf, rowWords, rowsFrom, bookOf, pad, sideWords, wordsOf, zeroRow, soundSide, sound}
 use Rattle.book.specs.Arrays.{Padded}
-use Rattle.book.specs.Loading.{sideFrom, SoundRows, SoundBook}
+use Rattle.book.specs.Loading.{SoundRows, SoundBook}
 use Rattle.book.specs.declared.Way.{Way}
 use Rattle.book.specs.declared.Way.the-variants.{Bid, Offer}
 use Rattle.book.specs.declared.Row.{Row}
 use Rattle.book.proofs.Pads.{length-pad, pad-behind, live-of, live-n}
 use Rattle.book.proofs.Writes.{side-words}
-use Rattle.book.proofs.Tells.{all-of, side-few, side-rows, spare-zero, bids-padded, offers-padded}
+use Rattle.book.proofs.Tells.{all-of, side-few, side-rows, spare-zero, sides-padded}
 
 -- a row is read back from its words
 again : (l : List Row) → map rowOf (map rowWords l) ≡ l
@@ -89,7 +89,7 @@ words-back [] p = refl
 words-back (b ∷ bs) p = λ i. three b (p .0) i ∷ words-back bs (p .1) i
 
 -- a side read by value is written as it stood
-side-again : (base n : ℕ) (w : List ℕ) → base + 30 ≤ length w → Padded (sideFrom base n w) → sideWords (take n (rowsFrom base w)) ≡ take 30 (drop base w)
+side-again : (base n : ℕ) (w : List ℕ) → base + 30 ≤ length w → Padded (record { n = n; rows = rowsFrom base w }) → sideWords (take n (rowsFrom base w)) ≡ take 30 (drop base w)
 unfolding sideWords rowsFrom
 side-again base n w h p =
     let x : List ℕ = drop base w in
@@ -114,9 +114,9 @@ parts (x ∷ y ∷ z ∷ v ∷ l) e =
 pub block-again : (w : List ℕ) → length w ≡ 64 → sound w ≡ true → wordsOf (codeOf w) (bookOf w) ≡ w
 unfolding wordsOf
 block-again w h s =
-    let b = bids-padded w s in
-    let o = offers-padded w s in
-    (λ i. codeOf w ∷ live-n (sideFrom bidsAt (bidCount w) w) b i ∷ live-n (sideFrom offersAt (offerCount w) w) o i ∷ sym (spare-zero w s) i
+    let b = sides-padded w s .bids in
+    let o = sides-padded w s .offers in
+    (λ i. codeOf w ∷ live-n (record { n = bidCount w; rows = rowsFrom bidsAt w }) b i ∷ live-n (record { n = offerCount w; rows = rowsFrom offersAt w }) o i ∷ sym (spare-zero w s) i
     ∷ (side-again bidsAt (bidCount w) w (omega arith) b i ++ side-again offersAt (offerCount w) w (omega arith) o i))
     ∙ parts w h
 

@@ -1,6 +1,6 @@
 -- What a sound book's words tell of its sides (specs/Words). Assumes nothing.
 use Prim.Native.Nat.{ℕ, zero, suc, _+_, _-_, _≤_, _<_}
-use mathlib.Core.Path.{_≡_, refl, ap, sym, subst, _∙_}
+use mathlib.Core.Path.{_≡_, refl, ap, sym, _∙_}
 use mathlib.Core.Bool.{Bool, true, _&&_}
 use mathlib.Core.List.{List, [], _∷_, _++_}
 use native.Mathlib.Decide.{decLt}
@@ -14,12 +14,11 @@ use Rattle.wire.specs.Number.{word32}
 use Rattle.wire.proofs.Bools.{both, join}
 use Rattle.book.specs.Sides.{noRow}
 use Rattle.book.specs.Words.{bidCount, offerCount, spareWord, bidsAt, offersAt, rowsFrom, bookOf, noRows, pad, bestFirst, bounded, zeroRow, soundSide, sound}
-use Rattle.book.specs.Arrays.{Padded, bookIn}
-use Rattle.book.specs.Loading.{sideFrom, SoundRows, SoundBook}
+use Rattle.book.specs.Arrays.{Padded, Sides}
+use Rattle.book.specs.Loading.{rowsIn, countsIn, SoundRows, SoundBook}
 use Rattle.book.specs.declared.Way.{Way}
 use Rattle.book.specs.declared.Way.the-variants.{Bid, Offer}
 use Rattle.book.specs.declared.Row.{Row}
-use Rattle.book.specs.declared.Side.{Side}
 use Rattle.book.proofs.Pads.{length-pad, pad-behind}
 use Rattle.book.proofs.Loads.{rows-ten}
 
@@ -117,13 +116,12 @@ module _ (w : List ℕ) (y : sound w ≡ true) where
   pub few-offers : offerCount w ≤ 10
   few-offers = side-few Offer (offerCount w) (rowsFrom offersAt w) (book-parts .2)
 
-  -- the bids read by value can be walked on
-  pub bids-padded : Padded (sideFrom bidsAt (bidCount w) w)
-  bids-padded = side-padded Bid (bidCount w) (rowsFrom bidsAt w) (book-parts .1) (rows-ten bidsAt w)
-
-  -- the offers read by value can be walked on
-  pub offers-padded : Padded (sideFrom offersAt (offerCount w) w)
-  offers-padded = side-padded Offer (offerCount w) (rowsFrom offersAt w) (book-parts .2) (rows-ten offersAt w)
+  -- its sides read by value can be walked on
+  pub sides-padded : Sides (rowsIn w) (countsIn w)
+  sides-padded = record {
+    bids = side-padded Bid (bidCount w) (rowsFrom bidsAt w) (book-parts .1) (rows-ten bidsAt w);
+    offers = side-padded Offer (offerCount w) (rowsFrom offersAt w) (book-parts .2) (rows-ten offersAt w);
+  }
 
   -- used bid rows have their price and orders words below 4,294,967,296
   pub bid-bounds : (i : ℕ) → i < bidCount w → (getD (rowsFrom bidsAt w) i noRow .price < word32) × (getD (rowsFrom bidsAt w) i noRow .orders < word32)
@@ -133,21 +131,9 @@ module _ (w : List ℕ) (y : sound w ≡ true) where
   pub offer-bounds : (i : ℕ) → i < offerCount w → (getD (rowsFrom offersAt w) i noRow .price < word32) × (getD (rowsFrom offersAt w) i noRow .orders < word32)
   offer-bounds i h = bounded-is (getD (rowsFrom offersAt w) i noRow) (used-bounded Offer (offerCount w) (rowsFrom offersAt w) (book-parts .2) (rows-ten offersAt w) i h)
 
-  -- a side that was loaded from the bids can be walked on
-  pub loaded-bids : (s : Side) → s ≡ sideFrom bidsAt (bidCount w) w → Padded s
-  loaded-bids s e = subst Padded (sym e) bids-padded
-
-  -- a side that was loaded from the offers can be walked on
-  pub loaded-offers : (s : Side) → s ≡ sideFrom offersAt (offerCount w) w → Padded s
-  loaded-offers s e = subst Padded (sym e) offers-padded
-
   -- the book is sound by value
   pub book-of-sound : SoundBook (bookOf w)
   book-of-sound = record {
     bids = side-rows Bid (bidCount w) (rowsFrom bidsAt w) (book-parts .1) (rows-ten bidsAt w);
     offers = side-rows Offer (offerCount w) (rowsFrom offersAt w) (book-parts .2) (rows-ten offersAt w);
   }
-
--- the two loaded sides are the book in the words
-pub loaded-book : (w : List ℕ) (bids offers : Side) → bids ≡ sideFrom bidsAt (bidCount w) w → offers ≡ sideFrom offersAt (offerCount w) w → bookIn bids offers ≡ bookOf w
-loaded-book w bids offers e f = λ i. bookIn (e i) (f i)

@@ -1,12 +1,13 @@
 -- Entries as they are read, judged and walked over (specs/Message, specs/Walk). Assumes nothing.
 use Prim.Native.Nat.{ℕ, zero, suc, _+_, _-_, _*_, _≤_, _<_}
 use mathlib.Core.Path.{_≡_, refl, ap, sym, _∙_, subst}
-use mathlib.Core.Bool.{Bool, true, false, cond}
+use mathlib.Core.Bool.{Bool, true, false, cond, _||_}
 use mathlib.Core.List.{List, [], _∷_, _++_}
 use mathlib.Core.Option.{Option, none, some, Option·map, bind}
 use native.Mathlib.Omega.{arith}
 use lib.Dec.{leb, eqb}
-use lib.ListN.{length, take, drop, getD, length-set, length-append, length-take, length-drop}
+use lib.ListN.{length, take, drop, getD, set, length-set, length-append, length-take, length-drop}
+use lib.Seq.{getD-set-same, getD-set-other}
 use borrow.Author.Needs.{needs}
 use borrow.Author.Tests.{le-leb, lt-leb, eq-eqb, ne-eqb}
 use Rattle.wire.specs.Choice.{oneOf, pick, all}
@@ -15,16 +16,15 @@ use Rattle.wire.proofs.Bools.{cond-same, split}
 use Rattle.book.specs.Message.{entryOf, entryAt, entriesFrom, listedEntry, listedSide, listedRank}
 use Rattle.book.specs.Sides.{noRow, newRows, changeRows, deleteRows, fits, rowsAfter, onSide}
 use Rattle.book.specs.Walk.{Book, emptyBook, withBids, withOffers, onBook, walk}
-use Rattle.book.specs.Arrays.{live, asSide, Padded, fitsAt, bookIn}
+use Rattle.book.specs.Arrays.{Side, live, Padded, sideAt, bookIn, Sides, emptyRows, emptyCounts, wayOf, fitsAt, tenAfter, countAfter}
 use Rattle.book.specs.Loading.{met, settled}
-use Rattle.book.specs.Words.{wordsOf}
+use Rattle.book.specs.Words.{noRows, wordsOf}
 use Rattle.book.specs.declared.Way.{Way}
 use Rattle.book.specs.declared.Way.the-variants.{Bid, Offer}
 use Rattle.book.specs.declared.Row.{Row}
-use Rattle.book.specs.declared.Side.{Side}
 use Rattle.book.specs.declared.Entry.{Entry}
 use Rattle.book.proofs.Pads.{live-n, live-of, padded-of}
-use Rattle.book.proofs.Fits.{fits-is}
+use Rattle.book.proofs.Fits.{fits-is, ten-after, count-is, has-one}
 
 pub entry-made : (quantity raw orders side level action price : ℕ) → price ≡ biased raw
     → _≡_ {A = Entry} (record { row = record { price = price; quantity = quantity; orders = orders }; side = side; level = level; action = action }) (entryOf quantity raw orders side level action)
@@ -145,119 +145,152 @@ module _ (time : ℕ) (e : Entry) (b : Book) where
   unfolding onBook
   on-clear a = rw (eq-eqb (e .action) 74 a)
 
-  on-bid : (e .action ≡ 74 → ⊥) → e .side ≡ 0 → fits Bid e (b .bids) ≡ true → onBook time e b ≡ some (record { bids = rowsAfter e (b .bids); offers = b .offers })
-  unfolding onBook onSide pick
-  on-bid a d f = rw (ne-eqb (e .action) 74 a, eq-eqb (e .side) 0 d, f)
-
-  on-offer : (e .action ≡ 74 → ⊥) → (e .side ≡ 0 → ⊥) → e .side ≡ 1 → fits Offer e (b .offers) ≡ true
-      → onBook time e b ≡ some (record { bids = b .bids; offers = rowsAfter e (b .offers) })
-  unfolding onBook onSide pick
-  on-offer a z d f = rw (ne-eqb (e .action) 74 a, ne-eqb (e .side) 0 z, eq-eqb (e .side) 1 d, f)
-
-  not-bid : (e .action ≡ 74 → ⊥) → e .side ≡ 0 → fits Bid e (b .bids) ≡ false → onBook time e b ≡ none
-  unfolding onBook onSide pick
-  not-bid a d f = rw (ne-eqb (e .action) 74 a, eq-eqb (e .side) 0 d, f)
-
-  not-offer : (e .action ≡ 74 → ⊥) → (e .side ≡ 0 → ⊥) → e .side ≡ 1 → fits Offer e (b .offers) ≡ false → onBook time e b ≡ none
-  unfolding onBook onSide pick
-  not-offer a z d f = rw (ne-eqb (e .action) 74 a, ne-eqb (e .side) 0 z, eq-eqb (e .side) 1 d, f)
-
-  no-side : (e .action ≡ 74 → ⊥) → (e .side ≡ 0 → ⊥) → (e .side ≡ 1 → ⊥) → onBook time e b ≡ none
+  no-side : (e .action ≡ 74 → ⊥) → 1 < e .side → onBook time e b ≡ none
   unfolding onBook pick
-  no-side a z d = rw (ne-eqb (e .action) 74 a, ne-eqb (e .side) 0 z, ne-eqb (e .side) 1 d)
+  no-side a d = rw (ne-eqb (e .action) 74 a, ne-eqb (e .side) 0 (λ z. omega arith), ne-eqb (e .side) 1 (λ z. omega arith))
 
   -- a rank that is not listed fits neither side
   no-rank : (e .action ≡ 74 → ⊥) → listedRank (e .level) ≡ false → onBook time e b ≡ none
   unfolding onBook onSide fits pick
   no-rank a r = rw (ne-eqb (e .action) 74 a, r) (ap (cond (eqb (e .side) 0) none) (cond-same (eqb (e .side) 1) none) ∙ cond-same (eqb (e .side) 0) none)
 
+-- two sides, of which side k is the one that an entry is for
+module _ (rows : List (List Row)) (counts : List ℕ) (two : (length rows ≡ 2) × (length counts ≡ 2)) where
+  -- the book with one of them set
+  set-bids : (x : List Row) (n : ℕ) → bookIn (set rows 0 x) (set counts 0 n) ≡ withBids (bookIn rows counts) (take n x)
+  set-bids x n =
+      rw (getD-set-same rows 0 x [] (omega (arith, two)), getD-set-same counts 0 n 0 (omega (arith, two)), getD-set-other rows 0 1 x [] (λ e. omega arith), getD-set-other counts 0 1 n 0 (λ e. omega arith))
+
+  set-offers : (x : List Row) (n : ℕ) → bookIn (set rows 1 x) (set counts 1 n) ≡ withOffers (bookIn rows counts) (take n x)
+  set-offers x n =
+      rw (getD-set-same rows 1 x [] (omega (arith, two)), getD-set-same counts 1 n 0 (omega (arith, two)), getD-set-other rows 1 0 x [] (λ e. omega arith), getD-set-other counts 1 0 n 0 (λ e. omega arith))
+
+  set-sides : (k : ℕ) (x : List Row) (n : ℕ) → k ≤ 1 → Sides rows counts → Padded (record { n = n; rows = x }) → Sides (set rows k x) (set counts k n)
+  set-sides zero x n h p q = record {
+    bids = rw (getD-set-same rows 0 x [] (omega (arith, two)), getD-set-same counts 0 n 0 (omega (arith, two))) q;
+    offers = rw (getD-set-other rows 0 1 x [] (λ e. omega arith), getD-set-other counts 0 1 n 0 (λ e. omega arith)) (p .offers);
+  }
+  set-sides (suc zero) x n h p q = record {
+    bids = rw (getD-set-other rows 1 0 x [] (λ e. omega arith), getD-set-other counts 1 0 n 0 (λ e. omega arith)) (p .bids);
+    offers = rw (getD-set-same rows 1 x [] (omega (arith, two)), getD-set-same counts 1 n 0 (omega (arith, two))) q;
+  }
+  set-sides (suc (suc k)) x n h p q = absurd (omega arith)
+
+  -- the book after an entry that fits, and after one that does not
+  on-side : (time : ℕ) (e : Entry) (k : ℕ) (x : List Row) (n : ℕ) → (e .action ≡ 74 → ⊥) → e .side ≡ k → k ≤ 1 → fits (wayOf k) e (live (sideAt k rows counts)) ≡ true
+      → take n x ≡ rowsAfter e (live (sideAt k rows counts)) → onBook time e (bookIn rows counts) ≡ some (bookIn (set rows k x) (set counts k n))
+  unfolding onBook onSide pick
+  on-side time e zero x n a d h f q = rw (ne-eqb (e .action) 74 a, eq-eqb (e .side) 0 d, f, set-bids x n, q)
+  on-side time e (suc zero) x n a d h f q = rw (ne-eqb (e .action) 74 a, ne-eqb (e .side) 0 (λ z. omega arith), eq-eqb (e .side) 1 d, f, set-offers x n, q)
+  on-side time e (suc (suc k)) x n a d h f q = absurd (omega arith)
+
+  not-side : (time : ℕ) (e : Entry) (k : ℕ) → (e .action ≡ 74 → ⊥) → e .side ≡ k → k ≤ 1 → fits (wayOf k) e (live (sideAt k rows counts)) ≡ false → onBook time e (bookIn rows counts) ≡ none
+  unfolding onBook onSide pick
+  not-side time e zero a d h f = rw (ne-eqb (e .action) 74 a, eq-eqb (e .side) 0 d, f)
+  not-side time e (suc zero) a d h f = rw (ne-eqb (e .action) 74 a, ne-eqb (e .side) 0 (λ z. omega arith), eq-eqb (e .side) 1 d, f)
+  not-side time e (suc (suc k)) a d h f = absurd (omega arith)
+
+-- an empty book's sides
+pub empty-sides : Sides emptyRows emptyCounts
+unfolding noRows
+empty-sides = record { bids = padded-of [] (omega arith); offers = padded-of [] (omega arith) }
+
+-- each of the two sides is padded
+pub side-padded : (rows : List (List Row)) (counts : List ℕ) (k : ℕ) → Sides rows counts → k ≤ 1 → Padded (sideAt k rows counts)
+side-padded rows counts zero p h = p .bids
+side-padded rows counts (suc zero) p h = p .offers
+side-padded rows counts (suc (suc k)) p h = absurd (omega arith)
+
 -- what is left of the walk from the i-th entry on comes to what all of it does, and the words stay until then
-pub record Walking (time : ℕ) (s : List ℕ) (n : ℕ) (w₀ : List ℕ) (b₀ o₀ : Side) (w : List ℕ) (b o : Side) (i : ℕ) : Type 0 where
+pub record Walking (time : ℕ) (s : List ℕ) (n : ℕ) (w₀ : List ℕ) (rows₀ : List (List Row)) (counts₀ w : List ℕ) (rows : List (List Row)) (counts : List ℕ) (i : ℕ) : Type 0 where
   pub upto : i ≤ n
   pub room : 24 * n ≤ length s
   pub long : length w ≡ 64
   pub stays : w ≡ w₀
-  pub bids : Padded b
-  pub offers : Padded o
-  pub same : walk time (rest n i s) (bookIn b o) ≡ walk time (entriesFrom n 0 s) (bookIn b₀ o₀)
+  pub two : (length rows ≡ 2) × (length counts ≡ 2)
+  pub sides : Sides rows counts
+  pub same : walk time (rest n i s) (bookIn rows counts) ≡ walk time (entriesFrom n 0 s) (bookIn rows₀ counts₀)
 
-pub walk-starts : (time : ℕ) (s : List ℕ) (n : ℕ) (w : List ℕ) (b o : Side) → (length w ≡ 64) × Padded b × Padded o × (24 * n ≤ length s) → Walking time s n w b o w b o 0
-walk-starts time s n w b o p = record {
+pub walk-starts : (time : ℕ) (s : List ℕ) (n : ℕ) (w : List ℕ) (rows : List (List Row)) (counts : List ℕ) → (length w ≡ 64) × Sides rows counts × (24 * n ≤ length s)
+    → length rows ≡ 2 → length counts ≡ 2 → Walking time s n w rows counts w rows counts 0
+walk-starts time s n w rows counts p r c = record {
   upto = omega arith;
-  room = p .3;
+  room = p .2;
   long = p .0;
   stays = refl;
-  bids = p .1;
-  offers = p .2;
-  same = ap (λ (es : List Entry). walk time es (bookIn b o)) (rest-all n s);
+  two = (r, c);
+  sides = p .1;
+  same = ap (λ (es : List Entry). walk time es (bookIn rows counts)) (rest-all n s);
 }
 
-pub walk-ends : (time : ℕ) (s : List ℕ) (n c : ℕ) (w₀ : List ℕ) (b₀ o₀ : Side) (w u : List ℕ) (b o : Side) (i : ℕ) → Walking time s n w₀ b₀ o₀ w b o i → n ≤ i → u ≡ wordsOf c (bookIn b o)
-    → met 0 u ≡ settled c (walk time (entriesFrom n 0 s) (bookIn b₀ o₀)) w₀
+pub walk-ends : (time : ℕ) (s : List ℕ) (n c : ℕ) (w₀ : List ℕ) (rows₀ : List (List Row)) (counts₀ w u : List ℕ) (rows : List (List Row)) (counts : List ℕ) (i : ℕ)
+    → Walking time s n w₀ rows₀ counts₀ w rows counts i → n ≤ i → u ≡ wordsOf c (bookIn rows counts) → met 0 u ≡ settled c (walk time (entriesFrom n 0 s) (bookIn rows₀ counts₀)) w₀
 unfolding walk
-walk-ends time s n c w₀ b₀ o₀ w u b o i p h e =
-    let f : walk time (entriesFrom n 0 s) (bookIn b₀ o₀) ≡ some (bookIn b o) = sym (p .same) ∙ ap (λ (es : List Entry). walk time es (bookIn b o)) (rest-none n i s h) in
+walk-ends time s n c w₀ rows₀ counts₀ w u rows counts i p h e =
+    let f : walk time (entriesFrom n 0 s) (bookIn rows₀ counts₀) ≡ some (bookIn rows counts) = sym (p .same) ∙ ap (λ (es : List Entry). walk time es (bookIn rows counts)) (rest-none n i s h) in
     rw (f, e)
 
-module _ (time : ℕ) (s : List ℕ) (n : ℕ) (w₀ : List ℕ) (b₀ o₀ : Side) (w : List ℕ) (b o : Side) (i : ℕ) (p : Walking time s n w₀ b₀ o₀ w b o i) (h : i < n) (e : Entry) (q : e ≡ entryAt (24 * i) s) where
-  one-more : bind (onBook time e (bookIn b o)) (walk time (rest n (i + 1) s)) ≡ walk time (entriesFrom n 0 s) (bookIn b₀ o₀)
+-- the test on numbers told whether the entry fits its side
+pub fits-told : (rows : List (List Row)) (counts : List ℕ) (e : Entry) (way : Way) (t f : Bool) (up : ℕ) → Sides rows counts → e .side ≤ 1 → 1 ≤ e .level → e .level ≤ 10 → way ≡ wayOf (e .side) → up ≡ e .level - 2
+    → f ≡ fitsAt way (e .action) (getD counts (e .side) 0) (e .level) (getD (getD rows (e .side) []) up noRow .price) (getD (getD rows (e .side) []) (e .level - 1) noRow .price) (e .row .price) → f ≡ t
+    → fits (wayOf (e .side)) e (live (sideAt (e .side) rows counts)) ≡ t
+fits-told rows counts e way t f up p k a b y u q r =
+    fits-is (wayOf (e .side)) (sideAt (e .side) rows counts) e (side-padded rows counts (e .side) p k) a b ∙ rw (← u, ← y) (sym q ∙ r)
+
+module _ (time : ℕ) (s : List ℕ) (n : ℕ) (w₀ : List ℕ) (rows₀ : List (List Row)) (counts₀ w : List ℕ) (rows : List (List Row)) (counts : List ℕ) (i : ℕ)
+    (p : Walking time s n w₀ rows₀ counts₀ w rows counts i) (h : i < n) (e : Entry) (q : e ≡ entryAt (24 * i) s) where
+  one-more : bind (onBook time e (bookIn rows counts)) (walk time (rest n (i + 1) s)) ≡ walk time (entriesFrom n 0 s) (bookIn rows₀ counts₀)
   unfolding walk
-  one-more = rw q (sym (ap (λ (es : List Entry). walk time es (bookIn b o)) (rest-more n i s h)) ∙ p .same)
+  one-more = rw q (sym (ap (λ (es : List Entry). walk time es (bookIn rows counts)) (rest-more n i s h)) ∙ p .same)
 
-  goes : (b′ o′ : Side) → Padded b′ → Padded o′ → onBook time e (bookIn b o) ≡ some (bookIn b′ o′) → Walking time s n w₀ b₀ o₀ w b′ o′ (i + 1)
+  goes : (rows′ : List (List Row)) (counts′ : List ℕ) → (length rows′ ≡ 2) × (length counts′ ≡ 2) → Sides rows′ counts′ → onBook time e (bookIn rows counts) ≡ some (bookIn rows′ counts′)
+      → Walking time s n w₀ rows₀ counts₀ w rows′ counts′ (i + 1)
   unfolding bind
-  goes b′ o′ pb po f = record { upto = omega arith; room = p .room; long = p .long; stays = p .stays; bids = pb; offers = po; same = rw f at one-more }
+  goes rows′ counts′ two sides f = record { upto = omega arith; room = p .room; long = p .long; stays = p .stays; two = two; sides = sides; same = rw f at one-more }
 
-  stops : (c : ℕ) → onBook time e (bookIn b o) ≡ none → met 16 w ≡ settled c (walk time (entriesFrom n 0 s) (bookIn b₀ o₀)) w₀
+  stops : (c : ℕ) → onBook time e (bookIn rows counts) ≡ none → met 16 w ≡ settled c (walk time (entriesFrom n 0 s) (bookIn rows₀ counts₀)) w₀
   unfolding bind
   stops c f = ap (met 16) (p .stays) ∙ ap (λ (r : Option Book). settled c r w₀) (rw f at one-more)
 
-  pub walk-clear : (b′ o′ : Side) → e .action ≡ 74 → b′ ≡ asSide [] → o′ ≡ asSide [] → Walking time s n w₀ b₀ o₀ w b′ o′ (i + 1)
-  walk-clear b′ o′ a eb eo =
-      rw (eb, eo) (goes (asSide []) (asSide []) (padded-of [] (omega arith)) (padded-of [] (omega arith)) (on-clear time e (bookIn b o) a))
+  pub walk-clear : (rows′ : List (List Row)) → e .action ≡ 74 → rows′ ≡ emptyRows → Walking time s n w₀ rows₀ counts₀ w rows′ emptyCounts (i + 1)
+  walk-clear rows′ a r = rw r (goes emptyRows emptyCounts (refl, refl) empty-sides (on-clear time e (bookIn rows counts) a))
 
-  few-bids : length (live b) ≤ 10
-  few-bids = omega (arith, live-n b (p .bids), p .bids .few)
+  pub walk-side : (x : List Row) (m : ℕ) → (e .action ≡ 74 → ⊥) → e .side ≤ 1 → fits (wayOf (e .side)) e (live (sideAt (e .side) rows counts)) ≡ true
+      → x ≡ tenAfter e (getD rows (e .side) []) → m ≡ countAfter (e .action) (getD counts (e .side) 0)
+      → Walking time s n w₀ rows₀ counts₀ w (set rows (e .side) x) (set counts (e .side) m) (i + 1)
+  walk-side x m a d f ex em =
+      let side : Side = sideAt (e .side) rows counts in
+      let l : List Row = rowsAfter e (live side) in
+      let pad = side-padded rows counts (e .side) (p .sides) d in
+      let few = after-few e (live side) (omega (arith, live-n side pad, pad .few)) in
+      let tx : x ≡ take 10 (l ++ noRows) = ex ∙ ten-after (wayOf (e .side)) side e pad f in
+      let tm : m ≡ length l = em ∙ count-is (wayOf (e .side)) side e pad f in
+      goes (set rows (e .side) x) (set counts (e .side) m) (length-set rows (e .side) x ∙ p .two .0, length-set counts (e .side) m ∙ p .two .1)
+      (set-sides rows counts (p .two) (e .side) x m d (p .sides) (rw (tx, tm) (padded-of l few)))
+      (on-side rows counts (p .two) time e (e .side) x m a refl d f (rw (tx, tm) (live-of l few)))
 
-  few-offers : length (live o) ≤ 10
-  few-offers = omega (arith, live-n o (p .offers), p .offers .few)
+  pub count-few : e .side ≤ 1 → getD counts (e .side) 0 ≤ 10
+  count-few d = side-padded rows counts (e .side) (p .sides) d .few
 
-  pub walk-bid : (b′ : Side) → (e .action ≡ 74 → ⊥) → e .side ≡ 0 → fits Bid e (live b) ≡ true → b′ ≡ asSide (rowsAfter e (live b)) → Walking time s n w₀ b₀ o₀ w b′ o (i + 1)
-  walk-bid b′ a d f eb =
-      let few = after-few e (live b) few-bids in
-      rw eb (goes (asSide (rowsAfter e (live b))) o (padded-of (rowsAfter e (live b)) few) (p .offers)
-      (on-bid time e (bookIn b o) a d f ∙ ap (λ (l : List Row). some (record { bids = l; offers = live o })) (sym (live-of (rowsAfter e (live b)) few))))
+  pub count-one : e .side ≤ 1 → fits (wayOf (e .side)) e (live (sideAt (e .side) rows counts)) ≡ true → (eqb (e .action) 0 || leb 1 (getD counts (e .side) 0)) ≡ true
+  count-one d f = has-one (wayOf (e .side)) (sideAt (e .side) rows counts) e (side-padded rows counts (e .side) (p .sides) d) f
 
-  pub walk-offer : (o′ : Side) → (e .action ≡ 74 → ⊥) → (e .side ≡ 0 → ⊥) → e .side ≡ 1 → fits Offer e (live o) ≡ true → o′ ≡ asSide (rowsAfter e (live o)) → Walking time s n w₀ b₀ o₀ w b o′ (i + 1)
-  walk-offer o′ a z d f eo =
-      let few = after-few e (live o) few-offers in
-      rw eo (goes b (asSide (rowsAfter e (live o))) (p .bids) (padded-of (rowsAfter e (live o)) few)
-      (on-offer time e (bookIn b o) a z d f ∙ ap (λ (l : List Row). some (record { bids = live b; offers = l })) (sym (live-of (rowsAfter e (live o)) few))))
-
-  pub stop-zero : (c : ℕ) → (e .action ≡ 74 → ⊥) → e .level < 1 → met 16 w ≡ settled c (walk time (entriesFrom n 0 s) (bookIn b₀ o₀)) w₀
+  pub stop-zero : (c : ℕ) → (e .action ≡ 74 → ⊥) → e .level < 1 → met 16 w ≡ settled c (walk time (entriesFrom n 0 s) (bookIn rows₀ counts₀)) w₀
   unfolding listedRank
-  stop-zero c a l = stops c (no-rank time e (bookIn b o) a (rw (lt-leb 1 (e .level) l)))
+  stop-zero c a l = stops c (no-rank time e (bookIn rows counts) a (rw (lt-leb 1 (e .level) l)))
 
-  pub stop-eleven : (c : ℕ) → (e .action ≡ 74 → ⊥) → 1 ≤ e .level → 10 < e .level → met 16 w ≡ settled c (walk time (entriesFrom n 0 s) (bookIn b₀ o₀)) w₀
+  pub stop-eleven : (c : ℕ) → (e .action ≡ 74 → ⊥) → 1 ≤ e .level → 10 < e .level → met 16 w ≡ settled c (walk time (entriesFrom n 0 s) (bookIn rows₀ counts₀)) w₀
   unfolding listedRank
-  stop-eleven c a l u = stops c (no-rank time e (bookIn b o) a (rw (le-leb 1 (e .level) l, lt-leb (e .level) 10 u)))
+  stop-eleven c a l u = stops c (no-rank time e (bookIn rows counts) a (rw (le-leb 1 (e .level) l, lt-leb (e .level) 10 u)))
 
-  pub stop-bid : (c : ℕ) → (e .action ≡ 74 → ⊥) → e .side ≡ 0 → fits Bid e (live b) ≡ false → met 16 w ≡ settled c (walk time (entriesFrom n 0 s) (bookIn b₀ o₀)) w₀
-  stop-bid c a d f = stops c (not-bid time e (bookIn b o) a d f)
+  pub stop-side : (c : ℕ) → (e .action ≡ 74 → ⊥) → 1 < e .side → met 16 w ≡ settled c (walk time (entriesFrom n 0 s) (bookIn rows₀ counts₀)) w₀
+  stop-side c a d = stops c (no-side time e (bookIn rows counts) a d)
 
-  pub stop-offer : (c : ℕ) → (e .action ≡ 74 → ⊥) → (e .side ≡ 0 → ⊥) → e .side ≡ 1 → fits Offer e (live o) ≡ false → met 16 w ≡ settled c (walk time (entriesFrom n 0 s) (bookIn b₀ o₀)) w₀
-  stop-offer c a z d f = stops c (not-offer time e (bookIn b o) a z d f)
+  pub stop-misfit : (c : ℕ) → (e .action ≡ 74 → ⊥) → e .side ≤ 1 → fits (wayOf (e .side)) e (live (sideAt (e .side) rows counts)) ≡ false
+      → met 16 w ≡ settled c (walk time (entriesFrom n 0 s) (bookIn rows₀ counts₀)) w₀
+  stop-misfit c a d f = stops c (not-side rows counts (p .two) time e (e .side) a refl d f)
 
-  pub stop-side : (c : ℕ) → (e .action ≡ 74 → ⊥) → (e .side ≡ 0 → ⊥) → (e .side ≡ 1 → ⊥) → met 16 w ≡ settled c (walk time (entriesFrom n 0 s) (bookIn b₀ o₀)) w₀
-  stop-side c a z d = stops c (no-side time e (bookIn b o) a z d)
-
--- the test on numbers told whether the entry fits the side
-pub fits-told : (w : Way) (s : Side) (e : Entry) (t f : Bool) (up : ℕ) → Padded s → 1 ≤ e .level → e .level ≤ 10 → up ≡ e .level - 2
-    → f ≡ fitsAt w (e .action) (s .n) (e .level) (getD (s .rows) up noRow .price) (getD (s .rows) (e .level - 1) noRow .price) (e .row .price) → f ≡ t
-    → fits w e (live s) ≡ t
-fits-told w s e t f up p a b u q r = fits-is w s e p a b ∙ rw (← u) (sym q ∙ r)
-
-pub ruleset walking = (needs, walk-starts, walk-ends, walk-clear, walk-bid, walk-offer, stop-zero, stop-eleven, stop-bid, stop-offer, stop-side, fits-told)
+pub ruleset walking = (needs, walk-starts, walk-ends, walk-clear, walk-side, count-few, count-one, stop-zero, stop-eleven, stop-side, stop-misfit, fits-told)
 
 -- at most ten rows a side, of a book and of what may be a book
 abbrev pub Few : Book → Type 0

@@ -1,30 +1,56 @@
--- A side as the code has it, ten rows by value, and the tests of an entry on the numbers that the walk reads. Assumes nothing.
-use Prim.Native.Nat.{ℕ, _+_, _≤_}
+-- Sides as the code has them, ten rows each by value and their counts beside them, and what it makes of them for an entry. Assumes nothing.
+use Prim.Native.Nat.{ℕ, _+_, _-_, _≤_, min}
 use mathlib.Core.Path.{_≡_}
-use mathlib.Core.Bool.{Bool, false, _&&_, _||_}
-use mathlib.Core.List.{List, [], _∷_}
-use lib.ListN.{length, take}
+use mathlib.Core.Bool.{Bool, false, cond, _&&_, _||_}
+use mathlib.Core.List.{List, [], _∷_, _++_}
+use lib.ListN.{take, getD, set}
 use lib.Dec.{ltb, leb, eqb}
 use Rattle.wire.specs.Choice.{pick}
-use Rattle.book.specs.Message.{new, change, delete, depth}
-use Rattle.book.specs.Sides.{better}
+use Rattle.book.specs.Message.{new, change, delete, depth, bidSide}
+use Rattle.book.specs.Sides.{better, noRow, newRows, deleteRows}
 use Rattle.book.specs.Walk.{Book}
-use Rattle.book.specs.Words.{pad}
+use Rattle.book.specs.Words.{noRows, pad}
 use Rattle.book.specs.declared.Way.{Way}
+use Rattle.book.specs.declared.Way.the-variants.{Bid, Offer}
 use Rattle.book.specs.declared.Row.{Row}
-use Rattle.book.specs.declared.Side.{Side}
+use Rattle.book.specs.declared.Entry.{Entry}
 
--- the rows of a side, and the side of some rows
+-- ten rows, of which n are used
+pub record Side : Type 0 where
+  pub n : ℕ
+  pub rows : List Row
+
+-- the rows of a side
 abbrev pub live : Side → List Row
 live s = take (s .n) (s .rows)
-
-abbrev pub asSide : List Row → Side
-asSide l = record { n = length l; rows = pad l }
 
 -- "Rows beyond the count are zero"
 pub record Padded (s : Side) : Type 0 where
   pub few : s .n ≤ depth
   pub zeros : s .rows ≡ pad (live s)
+
+-- side k of the two, 0 the bids and 1 the offers, and the book of both
+abbrev pub sideAt : ℕ → List (List Row) → List ℕ → Side
+sideAt k rows counts = record { n = getD counts k 0; rows = getD rows k [] }
+
+abbrev pub bookIn : List (List Row) → List ℕ → Book
+bookIn rows counts = record { bids = live (sideAt 0 rows counts); offers = live (sideAt 1 rows counts) }
+
+-- both are padded
+pub record Sides (rows : List (List Row)) (counts : List ℕ) : Type 0 where
+  pub bids : Padded (sideAt 0 rows counts)
+  pub offers : Padded (sideAt 1 rows counts)
+
+-- the sides of an empty book
+abbrev pub emptyRows : List (List Row)
+emptyRows = noRows ∷ noRows ∷ []
+
+abbrev pub emptyCounts : List ℕ
+emptyCounts = 0 ∷ 0 ∷ []
+
+-- the side of an entry
+abbrev pub wayOf : ℕ → Way
+wayOf side = cond (eqb side bidSide) Bid Offer
 
 -- an entry at rank p of a side of n rows, by the prices of the row above and of the row that stands there
 unfoldable pub fitsAt : Way → ℕ → ℕ → ℕ → ℕ → ℕ → ℕ → Bool
@@ -36,6 +62,14 @@ fitsAt w action n p above old price =
     ∷ [])
     false
 
--- a book as two sides
-abbrev pub bookIn : Side → Side → Book
-bookIn bids offers = record { bids = live bids; offers = live offers }
+-- ten rows and a count after an entry that is new, a change, or else a delete
+unfoldable pub tenAfter : Entry → List Row → List Row
+tenAfter e rows =
+    pick (e .action)
+    ((new, newRows (e .level) (e .row) rows)
+    ∷ (change, set rows (e .level - 1) (e .row))
+    ∷ [])
+    (deleteRows (e .level) rows ++ (noRow ∷ []))
+
+unfoldable pub countAfter : ℕ → ℕ → ℕ
+countAfter action n = pick action ((new, min depth (n + 1)) ∷ (change, n) ∷ []) (n - 1)

@@ -1,32 +1,47 @@
--- A side read from a book's words by value, the test of one of its used rows, a sound book by value, and a book's words after a walk (document 01, "The book table"). Assumes nothing.
-use Prim.Native.Nat.{ℕ, _≤_}
+-- The sides read from a book's words by value, the counts that tell whether one is sound, a sound book by value, and a book's words after a walk (document 01, "The book table"). Assumes nothing.
+use Prim.Native.Nat.{ℕ, zero, suc, _≤_}
 use mathlib.Core.Path.{_≡_}
-use mathlib.Core.Bool.{Bool, true, _&&_, _||_}
-use mathlib.Core.List.{List}
+use mathlib.Core.Bool.{Bool, true, cond, _&&_}
+use mathlib.Core.List.{List, [], _∷_}
 use mathlib.Core.Option.{Option, none, some}
-use lib.ListN.{length}
-use lib.Dec.{eqb}
+use lib.ListN.{length, getD}
+use lib.Bits.{bitOr}
+use lib.Dec.{leb, ltb}
 use Rattle.wire.specs.Choice.{all}
+use Rattle.wire.specs.Number.{word32}
 use Rattle.book.specs.Message.{depth}
-use Rattle.book.specs.Sides.{better}
+use Rattle.book.specs.Sides.{better, noRow}
 use Rattle.book.specs.Walk.{Book}
-use Rattle.book.specs.Words.{rowsFrom, wordsOf, bestFirst, bounded}
+use Rattle.book.specs.Words.{bidCount, offerCount, bidsAt, offersAt, rowsFrom, wordsOf, bestFirst, bounded, zeroRow}
 use Rattle.book.specs.declared.Way.{Way}
 use Rattle.book.specs.declared.Way.the-variants.{Bid, Offer}
 use Rattle.book.specs.declared.Row.{Row}
-use Rattle.book.specs.declared.Side.{Side}
 
--- the side of n rows whose ten rows stand from a word on
-abbrev pub sideFrom : ℕ → ℕ → List ℕ → Side
-sideFrom base n w = record { n = n; rows = rowsFrom base w }
+-- the two sides' ten rows, and their counts
+abbrev pub rowsIn : List ℕ → List (List Row)
+rowsIn w = rowsFrom bidsAt w ∷ rowsFrom offersAt w ∷ []
 
--- row i of the rows that are used, below a row with the price `above`
-unfoldable pub soundRow : Way → ℕ → ℕ → Row → Bool
-soundRow w i above r = bounded r && (eqb i 0 || better w above (r .price))
+abbrev pub countsIn : List ℕ → List ℕ
+countsIn w = bidCount w ∷ offerCount w ∷ []
 
--- the rows that are used: each bounded, and better than the next
-abbrev pub soundUsed : Way → List Row → Bool
-soundUsed w s = all bounded s && bestFirst w s
+-- how many rows, from the first on, are each better than the next
+unfoldable pub inOrder : Way → List Row → ℕ
+inOrder w [] = 0
+inOrder w (x ∷ []) = 1
+inOrder w (x ∷ (y ∷ s)) = cond (better w (x .price) (y .price)) (suc (inOrder w (y ∷ s))) 1
+
+-- of the first i rows: how many there are down to the last that is not zero, and the OR of their price and orders words
+unfoldable pub usedOf : ℕ → List Row → ℕ
+usedOf zero s = 0
+usedOf (suc i) s = cond (zeroRow (getD s i noRow)) (usedOf i s) (suc i)
+
+unfoldable pub lowsOf : ℕ → List Row → ℕ
+lowsOf zero s = 0
+lowsOf (suc i) s = bitOr (lowsOf i s) (bitOr (getD s i noRow .price) (getD s i noRow .orders))
+
+-- ten rows of which at most n are used, their price and orders words below 4,294,967,296
+unfoldable pub soundWords : ℕ → List Row → Bool
+soundWords n s = leb (usedOf depth s) n && ltb (lowsOf depth s) word32
 
 -- a side by value: at most ten rows, price and orders words below 4,294,967,296, each row better than the next
 pub record SoundRows (w : Way) (s : List Row) : Type 0 where

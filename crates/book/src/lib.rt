@@ -1,19 +1,20 @@
 // One book: rows, two sides, the entries of a book message (document 01, "One unit", "The book table", "Entries, against a side of n rows").
 ghost use mathlib.Core.Path.{_≡_};
-ghost use mathlib.Core.List.{[]};
+ghost use mathlib.Core.List.{[], _∷_, _++_, map};
 ghost use Prim.Native.Nat.{_+_, _-_, _*_, _≤_, _<_, min};
-ghost use lib.ListN.{length, set, take, drop};
-ghost use mathlib.Core.Bool.{true, _||_};
-ghost use lib.Dec.{leb, ltb};
+ghost use lib.ListN.{length, set, drop};
+ghost use mathlib.Core.Bool.{true, cond, _||_};
+ghost use lib.Dec.{leb, ltb, eqb};
 ghost use Rattle.book.specs.Message.{depth, new, entrySize, entryOf, entryAt, entriesFrom, listedEntry};
 ghost use Rattle.wire.specs.Number.{word32};
 ghost use Rattle.wire.specs.Choice.{all};
 ghost use Rattle.book.specs.Walk.{walk as walkBook};
-ghost use Rattle.book.specs.Sides.{better, noRow, newRows, deleteRows, fits, rowsAfter};
-ghost use Rattle.book.specs.Arrays.{live, asSide, Padded, fitsAt, bookIn};
-ghost use Rattle.slots.specs.Slots.{overlay};
-ghost use Rattle.book.specs.Words.{bookWidth, rowWidth, rowOf, rowWords, rowsFrom, sideWords, wordsOf, bounded, zeroRow, soundSide, sound};
-ghost use Rattle.book.specs.Loading.{sideFrom, soundRow, soundUsed, met, settled};
+ghost use Rattle.book.specs.Sides.{better, noRow, newRows, deleteRows};
+ghost use Rattle.book.specs.Arrays.{Sides, wayOf, fitsAt, tenAfter, countAfter, emptyRows, bookIn};
+ghost use Rattle.slots.specs.Slots.{overlay, flat};
+ghost use Rattle.book.specs.Words.{bookWidth, bidCount, offerCount, bidsAt, offersAt, rowWidth, rowOf, rowWords, rowsFrom, wordsOf, soundSide, sound};
+ghost use Rattle.book.specs.declared.Way.the-variants.{Bid, Offer};
+ghost use Rattle.book.specs.Loading.{rowsIn, inOrder, soundWords, met, settled};
 
 // The two sides.
 pub enum Way {
@@ -26,12 +27,6 @@ pub struct Row {
     pub price: u64,
     pub quantity: u64,
     pub orders: u64,
-}
-
-// A side of n rows, best first; the rows behind them are zero.
-pub struct Side {
-    pub rows: [Row; 10],
-    pub n: usize,
 }
 
 // An entry of a book message, its numbers as sent but for the price, which is the row's price word.
@@ -53,23 +48,96 @@ fn zero_row() -> Row
     }
 }
 
-// A side of no rows.
-pub fn empty_side() -> Side
-    ensures { λ r. ⌜ r ≡ asSide [] ⌝ }
+// The ten rows of each side of an empty book.
+pub fn no_rows() -> [[Row; 10]; 2]
+    ensures { λ r. ⌜ r ≡ emptyRows ⌝ }
 {
     let none = zero_row();
-    Side {
-        n: 0,
-        rows: [none; 10],
+    let rows = [none; 10];
+    [rows; 2]
+}
+
+// One word of two: a where c holds, else b.
+fn word_if(c: bool, a: u64, b: u64) -> u64
+    ensures { λ r. ⌜ r ≡ cond c a b ⌝ }
+{
+    if c { a } else { b }
+}
+
+// One row of two, word by word.
+fn row_if(c: bool, a: Row, b: Row) -> Row
+    ensures { λ r. ⌜ r ≡ cond c a b ⌝ }
+{
+    Row {
+        price: word_if(c, a.price, b.price),
+        quantity: word_if(c, a.quantity, b.quantity),
+        orders: word_if(c, a.orders, b.orders),
     }
 }
 
-// The lowest place that changes where a row is put in: behind the last row, or the last of ten.
-fn last_moved(n: usize) -> usize
-    requires { ⌜ n ≤ depth ⌝ }
-    ensures { λ r. ⌜ r ≡ min n 9 ⌝ }
+// A row put in at a place: the rows from there move down, and one pushed to place 11 is dropped.
+fn put_row(rows: [Row; 10], at: usize, row: Row) -> [Row; 10]
+    requires { ⌜ at < depth ⌝ }
+    ensures { λ r. ⌜ r ≡ newRows (at + 1) row rows ⌝ }
 {
-    if n < 9 { n } else { 9 }
+    let mut next = rows;
+    let mut above = zero_row();
+    let mut i = 0;
+    while i < 10 {
+        let here = rows[i];
+        let stays = row_if(i == at, row, here);
+        next[i] = row_if(at < i, above, stays);
+        above = here;
+        i += 1;
+    }
+    next
+}
+
+// A row replaced by another.
+fn set_row(rows: [Row; 10], at: usize, row: Row) -> [Row; 10]
+    ensures { λ r. ⌜ r ≡ set rows at row ⌝ }
+{
+    let mut next = rows;
+    let mut i = 0;
+    while i < 10 {
+        let here = rows[i];
+        next[i] = row_if(i == at, row, here);
+        i += 1;
+    }
+    next
+}
+
+// A row taken out: the lower rows move up, and behind them comes a zero row.
+fn drop_row(rows: [Row; 10], at: usize) -> [Row; 10]
+    requires { ⌜ at < depth ⌝ }
+    ensures { λ r. ⌜ r ≡ deleteRows (at + 1) rows ++ (noRow ∷ []) ⌝ }
+{
+    let mut next = rows;
+    let mut i = 0;
+    while i < 9 {
+        let here = rows[i];
+        let below = rows[i + 1];
+        next[i] = row_if(at <= i, below, here);
+        i += 1;
+    }
+    next[9] = zero_row();
+    next
+}
+
+// The ten rows of a side after an entry that is new, a change, or else a delete: the one application, for either side.
+fn rows_after(rows: [Row; 10], e: Entry) -> [Row; 10]
+    requires { ⌜ (1 ≤ e .level) × (e .level ≤ depth) ⌝ }
+    ensures { λ r. ⌜ r ≡ tenAfter e rows ⌝ }
+{
+    let at = e.level - 1;
+    let row = e.row;
+    if e.action == 0 {
+        return put_row(rows, at, row);
+    }
+    if e.action == 1 {
+        return set_row(rows, at, row);
+    }
+    drop_row(rows, at)
 }
 
 // The count after one row more, of which ten at most stay.
@@ -80,47 +148,18 @@ fn one_more(n: usize) -> usize
     if n < 10 { n + 1 } else { 10 }
 }
 
-// A row put in at a place: the rows from there move down, and one pushed to place 11 is dropped.
-fn put_row(mut side: Side, at: usize, row: Row) -> Side
-    requires { ⌜ Padded side × (at ≤ side .n) × (at < depth) ⌝ }
-    ensures { λ r. ⌜ r ≡ asSide (newRows (at + 1) row (live side)) ⌝ }
+// The count of a side of n rows after such an entry.
+fn count_after(n: usize, action: u64) -> usize
+    requires { ⌜ (n ≤ depth) × ((eqb action new || leb 1 n) ≡ true) ⌝ }
+    ensures { λ r. ⌜ r ≡ countAfter action n ⌝ }
 {
-    let n = side.n;
-    let mut i = last_moved(n);
-    while at < i {
-        let moved = side.rows[i - 1];
-        side.rows[i] = moved;
-        i -= 1;
+    if action == 0 {
+        return one_more(n);
     }
-    side.rows[at] = row;
-    side.n = one_more(n);
-    side
-}
-
-// A row replaced.
-fn set_row(mut side: Side, at: usize, row: Row) -> Side
-    requires { ⌜ Padded side × (at < side .n) ⌝ }
-    ensures { λ r. ⌜ r ≡ asSide (set (live side) at row) ⌝ }
-{
-    side.rows[at] = row;
-    side
-}
-
-// A row taken out: the lower rows move up.
-fn drop_row(mut side: Side, at: usize) -> Side
-    requires { ⌜ Padded side × (at < side .n) ⌝ }
-    ensures { λ r. ⌜ r ≡ asSide (deleteRows (at + 1) (live side)) ⌝ }
-{
-    let last = side.n - 1;
-    let mut i = at;
-    while i < last {
-        let moved = side.rows[i + 1];
-        side.rows[i] = moved;
-        i += 1;
+    if action == 1 {
+        return n;
     }
-    side.rows[last] = zero_row();
-    side.n = last;
-    side
+    n - 1
 }
 
 // Whether price a is strictly better than price b.
@@ -182,22 +221,6 @@ fn fits_at(way: Way, action: u64, n: usize, p: usize, above: u64, old: u64, pric
         return price == old;
     }
     action == 2
-}
-
-// A side after an entry that fits it.
-fn side_after(side: Side, way: Way, e: Entry) -> Side
-    requires { ⌜ Padded side × (fits way e (live side) ≡ true) ⌝ }
-    ensures { λ r. ⌜ r ≡ asSide (rowsAfter e (live side)) ⌝ }
-{
-    let at = e.level - 1;
-    let row = e.row;
-    if e.action == 0 {
-        return put_row(side, at, row);
-    }
-    if e.action == 1 {
-        return set_row(side, at, row);
-    }
-    drop_row(side, at)
 }
 
 // An entry of the numbers that were sent.
@@ -275,24 +298,34 @@ fn place_above(level: usize) -> usize
     if level < 2 { 0 } else { level - 2 }
 }
 
+// The side that an entry is for: 0 the bids, else the offers.
+fn way_of(side: u64) -> Way
+    ensures { λ r. ⌜ r ≡ wayOf side ⌝ }
+{
+    if side == 0 {
+        return Way::Bid;
+    }
+    Way::Offer
+}
+
 // The walk over n entries: each meets the sides as the entries before it left them, and the first that does not fit ends it with 16. After the last,
 // the book is written over its words.
 pub fn walk(
     words: &mut [u64],
     code: u64,
-    mut bids: Side,
-    mut offers: Side,
+    mut rows: [[Row; 10]; 2],
+    mut counts: [usize; 2],
     part: &[u8],
     n: usize,
     time: u64,
 ) -> u64
-    requires { ⌜ (length (now words) ≡ bookWidth) × Padded bids × Padded offers × (entrySize * n ≤ length (now part)) ⌝ }
-    ensures { λ r. ⌜ met r (now (words .exit)) ≡ settled code (walkBook time (entriesFrom n 0 (now (part .entry))) (bookIn bids offers)) (now (words .entry)) ⌝ }
+    requires { ⌜ (length (now words) ≡ bookWidth) × Sides rows counts × (entrySize * n ≤ length (now part)) ⌝ }
+    ensures { λ r. ⌜ met r (now (words .exit)) ≡ settled code (walkBook time (entriesFrom n 0 (now (part .entry))) (bookIn rows counts)) (now (words .entry)) ⌝ }
 {
     let mut i = 0;
     'walk: loop {
         if n <= i {
-            write_book(words, code, bids, offers);
+            write_book(words, code, rows, counts);
             break 'walk 0;
         }
         let e = entry_at(part, 24 * i);
@@ -300,8 +333,8 @@ pub fn walk(
         let level = e.level;
         i += 1;
         if e.action == 74 {
-            bids = empty_side();
-            offers = empty_side();
+            rows = no_rows();
+            counts = [0; 2];
             continue 'walk;
         }
         if level < 1 {
@@ -310,41 +343,28 @@ pub fn walk(
         if 10 < level {
             break 'walk 16;
         }
-        let up = place_above(level);
-        let place = level - 1;
-        if e.side == 0 {
-            let above = bids.rows[up];
-            let old = bids.rows[place];
-            if fits_at(
-                Way::Bid,
-                e.action,
-                bids.n,
-                level,
-                above.price,
-                old.price,
-                row.price,
-            ) {
-                bids = side_after(bids, Way::Bid, e);
-                continue 'walk;
-            }
+        if 1 < e.side {
             break 'walk 16;
         }
-        if e.side == 1 {
-            let above = offers.rows[up];
-            let old = offers.rows[place];
-            if fits_at(
-                Way::Offer,
-                e.action,
-                offers.n,
-                level,
-                above.price,
-                old.price,
-                row.price,
-            ) {
-                offers = side_after(offers, Way::Offer, e);
-                continue 'walk;
-            }
-            break 'walk 16;
+        let way = way_of(e.side);
+        let w = e.side as usize;
+        let up = place_above(level);
+        let place = level - 1;
+        let count = counts[w];
+        let above = rows[w][up];
+        let old = rows[w][place];
+        if fits_at(
+            way,
+            e.action,
+            count,
+            level,
+            above.price,
+            old.price,
+            row.price,
+        ) {
+            rows[w] = rows_after(rows[w], e);
+            counts[w] = count_after(count, e.action);
+            continue 'walk;
         }
         break 'walk 16;
     }
@@ -362,10 +382,10 @@ pub fn row_at(block: &[u64], at: usize) -> Row
     }
 }
 
-// A side of n rows, its ten rows from word `base` on.
-pub fn load_side(block: &[u64], base: usize, n: usize) -> Side
+// The ten rows from word `base` on.
+fn load_side(block: &[u64], base: usize) -> [Row; 10]
     requires { ⌜ base + 30 ≤ length (now block) ⌝ }
-    ensures { λ r. ⌜ r ≡ sideFrom base n (now (block .entry)) ⌝ }
+    ensures { λ r. ⌜ r ≡ rowsFrom base (now (block .entry)) ⌝ }
 {
     let none = zero_row();
     let mut rows = [none; 10];
@@ -374,94 +394,79 @@ pub fn load_side(block: &[u64], base: usize, n: usize) -> Side
         rows[k] = row_at(block, base + 3 * k);
         k += 1;
     }
-    Side { rows, n }
+    rows
 }
 
-// Whether a row is zero.
-fn is_zero(row: Row) -> bool
-    ensures { λ r. ⌜ r ≡ zeroRow row ⌝ }
+// The ten rows of each side of a book.
+pub fn load_rows(block: &[u64]) -> [[Row; 10]; 2]
+    requires { ⌜ length (now block) ≡ bookWidth ⌝ }
+    ensures { λ r. ⌜ r ≡ rowsIn (now (block .entry)) ⌝ }
 {
-    if row.price != 0 {
-        return false;
-    }
-    if row.quantity != 0 {
-        return false;
-    }
-    row.orders == 0
+    let bids = load_side(block, 4);
+    let offers = load_side(block, 34);
+    [bids, offers]
 }
 
-// Whether a row's price and orders words are below 4,294,967,296.
-fn is_bounded(row: Row) -> bool
-    ensures { λ r. ⌜ r ≡ bounded row ⌝ }
-{
-    if 4294967296 <= row.price {
-        return false;
-    }
-    row.orders < 4294967296
-}
-
-// Whether used row i of a side is sound: bounded, and strictly worse than the row above, where there is one.
-fn row_sound(way: Way, i: usize, above: u64, row: Row) -> bool
-    ensures { λ r. ⌜ r ≡ soundRow way i above row ⌝ }
-{
-    if is_bounded(row) {
-        if i == 0 {
-            return true;
-        }
-        return is_better(way, above, row.price);
-    }
-    false
-}
-
-// Whether the first n of the ten rows from word `base` on are bounded, and each strictly worse than the one above.
-fn used_sound(block: &[u64], base: usize, n: usize, way: Way) -> bool
-    requires { ⌜ (base + 30 ≤ length (now block)) × (n ≤ depth) ⌝ }
-    ensures { λ r. ⌜ r ≡ soundUsed way (take n (rowsFrom base (now (block .entry)))) ⌝ }
-{
-    let mut above = 0;
-    let mut i = 0;
-    while i < n {
-        let row = row_at(block, base + 3 * i);
-        if row_sound(way, i, above, row) {
-            above = row.price;
-            i += 1;
-        } else {
-            return false;
-        }
-    }
-    true
-}
-
-// Whether the rows behind the first n of the ten are zero.
-fn rest_zero(block: &[u64], base: usize, n: usize) -> bool
+// How many of the ten rows from word `base` on, from the first on, are each strictly better than the next.
+fn in_order(block: &[u64], base: usize, way: Way) -> u64
     requires { ⌜ base + 30 ≤ length (now block) ⌝ }
-    ensures { λ r. ⌜ r ≡ all zeroRow (drop n (rowsFrom base (now (block .entry)))) ⌝ }
+    ensures { λ r. ⌜ r ≡ inOrder way (rowsFrom base (now (block .entry))) ⌝ }
 {
-    let mut i = n;
+    let mut found = 10;
+    let mut i = 9;
+    while 0 < i {
+        let at = base + 3 * i;
+        let fine = is_better(way, block[at - 3], block[at]);
+        found = word_if(fine, found, i as u64);
+        i -= 1;
+    }
+    found
+}
+
+// Whether of the ten rows from word `base` on those behind the first n are zero, and all price and orders words below 4,294,967,296.
+fn words_sound(block: &[u64], base: usize, n: u64) -> bool
+    requires { ⌜ base + 30 ≤ length (now block) ⌝ }
+    ensures { λ r. ⌜ r ≡ soundWords n (rowsFrom base (now (block .entry))) ⌝ }
+{
+    let mut used = 0;
+    let mut lows = 0;
+    let mut i = 0;
     while i < 10 {
         let row = row_at(block, base + 3 * i);
-        if is_zero(row) {
-            i += 1;
-        } else {
-            return false;
-        }
+        let low = row.price | row.orders;
+        let any = low | row.quantity;
+        lows = lows | low;
+        i += 1;
+        used = word_if(any == 0, used, i as u64);
     }
-    true
-}
-
-// Whether a side is sound: its ten rows from word `base` on, of which as many are used as its count says.
-fn side_sound(block: &[u64], base: usize, count: u64, way: Way) -> bool
-    requires { ⌜ base + 30 ≤ length (now block) ⌝ }
-    ensures { λ r. ⌜ r ≡ soundSide way count (rowsFrom base (now (block .entry))) ⌝ }
-{
-    if 10 < count {
+    if n < used {
         return false;
     }
-    let n = count as usize;
-    if used_sound(block, base, n, way) {
-        return rest_zero(block, base, n);
+    lows < 4294967296
+}
+
+// Whether the bids are sound, by how many are in order, how many are used, and one OR.
+fn bids_sound(block: &[u64]) -> bool
+    requires { ⌜ length (now block) ≡ bookWidth ⌝ }
+    ensures { λ r. ⌜ r ≡ soundSide Bid (bidCount (now (block .entry))) (rowsFrom bidsAt (now (block .entry))) ⌝ }
+{
+    let n = block[1];
+    if in_order(block, 4, Way::Bid) < n {
+        return false;
     }
-    false
+    words_sound(block, 4, n)
+}
+
+// Whether the offers are sound.
+fn offers_sound(block: &[u64]) -> bool
+    requires { ⌜ length (now block) ≡ bookWidth ⌝ }
+    ensures { λ r. ⌜ r ≡ soundSide Offer (offerCount (now (block .entry))) (rowsFrom offersAt (now (block .entry))) ⌝ }
+{
+    let n = block[2];
+    if in_order(block, 34, Way::Offer) < n {
+        return false;
+    }
+    words_sound(block, 34, n)
 }
 
 // Whether a book is sound.
@@ -472,8 +477,8 @@ pub fn is_sound(block: &[u64]) -> bool
     if block[3] != 0 {
         return false;
     }
-    if side_sound(block, 4, block[1], Way::Bid) {
-        return side_sound(block, 34, block[2], Way::Offer);
+    if bids_sound(block) {
+        return offers_sound(block);
     }
     false
 }
@@ -489,27 +494,27 @@ fn write_row(block: &mut [u64], at: usize, row: Row)
 }
 
 // A side's ten rows written from word `base` on.
-fn write_side(block: &mut [u64], base: usize, side: Side)
-    requires { ⌜ (base + 30 ≤ length (now block)) × Padded side ⌝ }
-    ensures { λ _. ⌜ now (block .exit) ≡ overlay base (sideWords (live side)) (now (block .entry)) ⌝ }
+fn write_side(block: &mut [u64], base: usize, rows: [Row; 10])
+    requires { ⌜ base + 30 ≤ length (now block) ⌝ }
+    ensures { λ _. ⌜ now (block .exit) ≡ overlay base (flat (map rowWords rows)) (now (block .entry)) ⌝ }
 {
     let mut i = 0;
     while i < 10 {
-        let row = side.rows[i];
+        let row = rows[i];
         write_row(block, base + 3 * i, row);
         i += 1;
     }
 }
 
 // A book written to its words: code, counts, zero, bids, offers.
-fn write_book(block: &mut [u64], code: u64, bids: Side, offers: Side)
-    requires { ⌜ (length (now block) ≡ bookWidth) × Padded bids × Padded offers ⌝ }
-    ensures { λ _. ⌜ now (block .exit) ≡ wordsOf code (bookIn bids offers) ⌝ }
+fn write_book(block: &mut [u64], code: u64, rows: [[Row; 10]; 2], counts: [usize; 2])
+    requires { ⌜ (length (now block) ≡ bookWidth) × Sides rows counts ⌝ }
+    ensures { λ _. ⌜ now (block .exit) ≡ wordsOf code (bookIn rows counts) ⌝ }
 {
     block[0] = code;
-    block[1] = bids.n as u64;
-    block[2] = offers.n as u64;
+    block[1] = counts[0] as u64;
+    block[2] = counts[1] as u64;
     block[3] = 0;
-    write_side(block, 4, bids);
-    write_side(block, 34, offers);
+    write_side(block, 4, rows[0]);
+    write_side(block, 34, rows[1]);
 }

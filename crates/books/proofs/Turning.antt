@@ -2,8 +2,8 @@
 use Prim.Native.Nat.{ℕ, _+_, _-_, _*_, _≤_, _<_}
 use native.Mathlib.Omega.{arith}
 use mathlib.Core.Path.{_≡_, refl, sym, ap, _∙_}
-use mathlib.Core.Bool.{Bool, true, false, cond}
-use mathlib.Core.List.{List, []}
+use mathlib.Core.Bool.{Bool, true, false, cond, _&&_}
+use mathlib.Core.List.{List, [], _∷_}
 use mathlib.Core.Logic.{inl, inr}
 use mathlib.Core.Option.{Option, none, some}
 use lib.Dec.{leb}
@@ -22,14 +22,14 @@ use Rattle.slots.proofs.Frame.{taken-fits}
 use Rattle.book.specs.Message.{securityCode, noEntries, entriesFrom, entries, listedCode, listedEntry, listedBook}
 use Rattle.book.specs.Walk.{Book, emptyBook, walk}
 use Rattle.book.specs.Words.{bookOf, wordsOf, sound}
-use Rattle.book.specs.Arrays.{Padded, bookIn}
-use Rattle.book.specs.Loading.{Met, met, settled, sideFrom}
+use Rattle.book.specs.Arrays.{Sides, bookIn}
+use Rattle.book.specs.Loading.{Met, met, settled, rowsIn}
 use Rattle.book.specs.declared.Entry.{Entry}
-use Rattle.book.specs.declared.Side.{Side}
-use Rattle.book.proofs.Pads.{padded-of}
-use Rattle.book.proofs.Tells.{loaded-bids, loaded-offers, loaded-book}
+use Rattle.book.specs.declared.Row.{Row}
+use Rattle.book.proofs.Walks.{empty-sides}
+use Rattle.book.proofs.Tells.{sides-padded}
 use Rattle.books.specs.Table.{placeIn, block, unsoundAt, noneFree, bookAt, misfit, hasEntries, unsound, noSlot, misfits, bookAnswer, written, booksAfter}
-use Rattle.books.specs.Turns.{ready, startSide, slotMet, within, placeMet, bookTurn}
+use Rattle.books.specs.Turns.{ready, startRows, startCounts, slotMet, within, placeMet, bookTurn}
 
 pub long-part : (m : List ℕ) → 12 ≤ length m → take (length m - 12) (drop 12 m) ≡ drop 12 m
 long-part m h = take-all (length m - 12) (drop 12 m) (rw length-drop (omega arith))
@@ -50,31 +50,29 @@ part-room m k h e = rw length-drop (omega (arith, h, e))
 pub own-ready : (own b : Bool) (w : List ℕ) → own ≡ true → b ≡ sound w → b ≡ ready own w
 own-ready own b w y e = rw y e
 
-pub own-side : (own : Bool) (base n : ℕ) (w : List ℕ) (s : Side) → own ≡ true → s ≡ sideFrom base n w → s ≡ startSide own base n w
-own-side own base n w s y e = rw y e
+pub own-rows : (own : Bool) (w : List ℕ) (rows : List (List Row)) → own ≡ true → rows ≡ rowsIn w → rows ≡ startRows own w
+own-rows own w rows y e = rw y e
+
+pub own-counts : (own : Bool) (w : List ℕ) → own ≡ true → getD w 1 0 ∷ getD w 2 0 ∷ [] ≡ startCounts own w
+own-counts own w y = rw y
 
 -- a slot that is ready, and one that is not
 module _ (own t : Bool) (w : List ℕ) (e : t ≡ ready own w) where
-  sides : (o : Bool) → own ≡ o → t ≡ true → (s : Side) → (s ≡ startSide own 4 (getD w 1 0) w → Padded s) × (s ≡ startSide own 34 (getD w 2 0) w → Padded s)
-  sides true q y s =
-      let h : sound w ≡ true = ap (λ (o : Bool). ready o w) (sym q) ∙ sym e ∙ y in
-      ((λ f. loaded-bids w h s (rw q at f)), (λ f. loaded-offers w h s (rw q at f)))
-  sides false q y s = ((λ f. rw (rw q at f) (padded-of [] (omega arith))), (λ f. rw (rw q at f) (padded-of [] (omega arith))))
+  sides : (o : Bool) → own ≡ o → t ≡ true → Sides (startRows o w) (startCounts o w)
+  sides true q y = sides-padded w (ap (λ (o : Bool). ready o w) (sym q) ∙ sym e ∙ y)
+  sides false q y = empty-sides
 
-  pub start-bids : (s : Side) → t ≡ true → s ≡ startSide own 4 (getD w 1 0) w → Padded s
-  start-bids s y = sides own refl y s .0
+  book-is : (o : Bool) → bookIn (startRows o w) (startCounts o w) ≡ cond o (bookOf w) emptyBook
+  book-is true = refl
+  book-is false = refl
 
-  pub start-offers : (s : Side) → t ≡ true → s ≡ startSide own 34 (getD w 2 0) w → Padded s
-  start-offers s y = sides own refl y s .1
+  module _ (rows : List (List Row)) (counts : List ℕ) (y : t ≡ true) (r : rows ≡ startRows own w) (k : counts ≡ startCounts own w) where
+    pub start-sides : Sides rows counts
+    start-sides = rw (r, k) (sides own refl y)
 
-  book-is : (o : Bool) → own ≡ o → (a b : Side) → a ≡ startSide own 4 (getD w 1 0) w → b ≡ startSide own 34 (getD w 2 0) w → bookIn a b ≡ cond own (bookOf w) emptyBook
-  book-is true q a b ea eb = loaded-book w a b (rw q at ea) (rw q at eb) ∙ rw q
-  book-is false q a b ea eb = rw (rw q at ea, rw q at eb, q)
-
-  pub ready-met : (u : List ℕ) (a b : Side) (c time r : ℕ) (es : List Entry) → t ≡ true → a ≡ startSide own 4 (getD w 1 0) w → b ≡ startSide own 34 (getD w 2 0) w
-      → met r u ≡ settled c (walk time es (bookIn a b)) w → met r u ≡ slotMet own c time es w
-  unfolding slotMet
-  ready-met u a b c time r es y ea eb h = h ∙ rw (book-is own refl a b ea eb, sym e ∙ y)
+    pub ready-met : (u : List ℕ) (c time x : ℕ) (es : List Entry) → met x u ≡ settled c (walk time es (bookIn rows counts)) w → met x u ≡ slotMet own c time es w
+    unfolding slotMet
+    ready-met u c time x es h = h ∙ rw (r, k, book-is own, sym e ∙ y)
 
   pub unready-met : (c time : ℕ) (es : List Entry) → t ≡ false → met 18 w ≡ slotMet own c time es w
   unfolding slotMet
@@ -189,9 +187,9 @@ pub ruleset turning = (
   code-rest,
   part-room,
   own-ready,
-  own-side,
-  start-bids,
-  start-offers,
+  own-rows,
+  own-counts,
+  start-sides,
   ready-met,
   unready-met,
   slot-met,

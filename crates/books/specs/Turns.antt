@@ -1,25 +1,28 @@
 -- A book message on one slot, and on the table by slots, as the code goes about it. Assumes nothing.
 use Prim.Native.Nat.{ℕ}
 use mathlib.Core.Bool.{Bool, true, false, cond}
-use mathlib.Core.List.{List, []}
+use mathlib.Core.List.{List}
 use lib.Dec.{eqb}
 use Rattle.slots.specs.Slots.{put}
 use Rattle.slots.specs.declared.Slot.{Slot}
 use Rattle.slots.specs.declared.Slot.the-variants.{Held, Free, Full}
 use Rattle.book.specs.Walk.{emptyBook, walk}
 use Rattle.book.specs.Words.{bookWidth, bookOf, sound}
-use Rattle.book.specs.Arrays.{asSide}
-use Rattle.book.specs.Loading.{Met, met, settled, sideFrom}
+use Rattle.book.specs.Arrays.{emptyRows, emptyCounts}
+use Rattle.book.specs.Loading.{Met, met, settled, rowsIn, countsIn}
 use Rattle.book.specs.declared.Entry.{Entry}
-use Rattle.book.specs.declared.Side.{Side}
+use Rattle.book.specs.declared.Row.{Row}
 use Rattle.books.specs.Table.{block, bookAnswer, booksAfter}
 
 -- a code's own slot has to be sound; a free slot's book starts empty
 abbrev pub ready : Bool → List ℕ → Bool
 ready own w = cond own (sound w) true
 
-abbrev pub startSide : Bool → ℕ → ℕ → List ℕ → Side
-startSide own base n w = cond own (sideFrom base n w) (asSide [])
+abbrev pub startRows : Bool → List ℕ → List (List Row)
+startRows own w = cond own (rowsIn w) emptyRows
+
+abbrev pub startCounts : Bool → List ℕ → List ℕ
+startCounts own w = cond own (countsIn w) emptyCounts
 
 -- the words of one slot after entries: 18 where it is not ready
 unfoldable pub slotMet : Bool → ℕ → ℕ → List Entry → List ℕ → Met

@@ -9,9 +9,9 @@ ghost use Rattle.book.specs.Words.{rowOf};
 ghost use Rattle.wire.specs.Number.{word32};
 ghost use Rattle.book.specs.Loading.{met};
 ghost use Rattle.books.specs.Table.{placeIn, block as blockOf};
-ghost use Rattle.books.specs.Turns.{ready, startSide, slotMet, within, placeMet, bookTurn};
+ghost use Rattle.books.specs.Turns.{ready, startRows, startCounts, slotMet, within, placeMet, bookTurn};
 ghost use Rattle.books.specs.Reading.{rowRefused, rowOfSide, rowOfBook, readRow};
-use book::Side;
+use book::Row;
 use slots::Slot;
 
 // What reading a row gives: the answer, and with answer 0 the row, its price signed as sent.
@@ -33,15 +33,26 @@ fn is_ready(words: &[u64], own: bool) -> bool
     true
 }
 
-// A side of a slot's book, its ten rows from word `base` on; whatever the words of a free slot are, its book starts empty.
-fn side_in(words: &[u64], base: usize, n: u64, own: bool) -> Side
-    requires { ⌜ base + 30 ≤ length (now words) ⌝ }
-    ensures { λ r. ⌜ r ≡ startSide own base n (now (words .entry)) ⌝ }
+// The ten rows of each side of a slot's book; whatever the words of a free slot are, its book starts empty.
+fn rows_in(words: &[u64], own: bool) -> [[Row; 10]; 2]
+    requires { ⌜ length (now words) ≡ 64 ⌝ }
+    ensures { λ r. ⌜ r ≡ startRows own (now (words .entry)) ⌝ }
 {
     if own {
-        return book::load_side(words, base, n as usize);
+        return book::load_rows(words);
     }
-    book::empty_side()
+    book::no_rows()
+}
+
+// How many rows of each side are used.
+fn counts_in(words: &[u64], own: bool) -> [usize; 2]
+    requires { ⌜ length (now words) ≡ 64 ⌝ }
+    ensures { λ r. ⌜ r ≡ startCounts own (now (words .entry)) ⌝ }
+{
+    if own {
+        return [words[1] as usize, words[2] as usize];
+    }
+    [0; 2]
 }
 
 // A slot's words after n entries: 18 where it is a code's own and its book is not sound.
@@ -50,9 +61,9 @@ fn in_words(words: &mut [u64], own: bool, code: u64, part: &[u8], n: usize, time
     ensures { λ r. ⌜ met r (now (words .exit)) ≡ slotMet own code time (entriesFrom n 0 (now (part .entry))) (now (words .entry)) ⌝ }
 {
     if is_ready(words, own) {
-        let bids = side_in(words, 4, words[1], own);
-        let offers = side_in(words, 34, words[2], own);
-        return book::walk(words, code, bids, offers, part, n, time);
+        let rows = rows_in(words, own);
+        let counts = counts_in(words, own);
+        return book::walk(words, code, rows, counts, part, n, time);
     }
     18
 }

@@ -8,9 +8,7 @@ is-sound-spec =
     (tie.spec
     (λ c. search judges)
     (λ c. search judges)
-    (λ c. search judges)
     (λ c κs. search judges)
-    (λ c. search judges)
     (λ c κs. search judges)
     (λ c. search judges)
     (λ c. search judges))

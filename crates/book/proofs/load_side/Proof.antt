@@ -1,13 +1,13 @@
 use Prim.Native.Nat.{_-_}
-use Rattle.book.proofs.Loads.{loads, Filling}
+use Rattle.book.proofs.Loads.{loads, Loading}
 use Rattle.book.proofs.load_side.Statement.{statement}
 use Rattle.book.proofs.load_side.Tie as tie
 
 abbrev Inv-loop : tie.InvT-loop
-Inv-loop block base n rows₀ i₀ rows i = Filling base block rows i
+Inv-loop block base rows₀ k₀ rows k = Loading base block rows k
 
 abbrev μ-loop : tie.MeasureT-loop
-μ-loop block base n rows₀ i₀ rows i = 10 - i
+μ-loop block base rows₀ k₀ rows k = 10 - k
 
 pub load-side-spec : {M : Type 1} → statement M
 load-side-spec =

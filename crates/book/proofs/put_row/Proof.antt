@@ -4,10 +4,10 @@ use Rattle.book.proofs.put_row.Statement.{statement}
 use Rattle.book.proofs.put_row.Tie as tie
 
 abbrev Inv-loop : tie.InvT-loop
-Inv-loop at row side₀ n i₀ side i = Putting at side₀ side i
+Inv-loop at row rows next₀ above₀ i₀ next above i = Putting at row rows next above i
 
 abbrev μ-loop : tie.MeasureT-loop
-μ-loop at row side₀ n i₀ side i = i - at
+μ-loop at row rows next₀ above₀ i₀ next above i = 10 - i
 
 pub put-row-spec : {M : Type 1} → statement M
 put-row-spec =
@@ -19,13 +19,11 @@ put-row-spec =
     (λ c. search moves)
     (λ c. search moves)
     (λ c. search moves)
-    (λ c. search moves)
-    (λ c. search moves)
-    (λ c. search moves)
-    (λ c. search moves)
-    (λ c. search moves)
-    (λ c. search moves)
-    (λ c. search moves)
-    (λ c. search moves)
     (λ c κs. search moves)
+    (λ c κs. search moves)
+    (λ c. search moves)
+    (λ c. search moves)
+    (λ c. search moves)
+    (λ c. search moves)
+    (λ c. search moves)
     (λ c. search moves))

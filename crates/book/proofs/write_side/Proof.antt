@@ -4,10 +4,10 @@ use Rattle.book.proofs.write_side.Statement.{statement}
 use Rattle.book.proofs.write_side.Tie as tie
 
 abbrev Inv-loop : tie.InvT-loop
-Inv-loop block₀ base side i₀ block i = Writing base side block₀ block i
+Inv-loop block₀ base rows i₀ block i = Writing base rows block₀ block i
 
 abbrev μ-loop : tie.MeasureT-loop
-μ-loop block₀ base side i₀ block i = 10 - i
+μ-loop block₀ base rows i₀ block i = 10 - i
 
 pub write-side-spec : {M : Type 1} → statement M
 write-side-spec =

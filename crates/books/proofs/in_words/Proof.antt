@@ -7,9 +7,7 @@ in-words-spec =
     tie.close
     (tie.spec
     (λ c κs. search turning)
-    (λ c. search turning)
     (λ c κs. search turning)
-    (λ c. search turning)
     (λ c κs. search turning)
     (λ c κs. search turning)
     (λ c. search turning)
