@@ -7,7 +7,7 @@ use native.Mathlib.Nat.{add-comm}
 use native.Mathlib.Omega.{arith}
 use lib.ListN.{length, take, drop, set, getD, length-set, length-drop}
 use lib.Seq.{take-suc, take-suc-set, take-take, take-at, length-take-le, drop-set-lt, drop-drop, getD-drop}
-use mathlib.Core.Bool.{Bool}
+use lib.Dec.{leb}
 use Rattle.feed.specs.Program.{bufferSize}
 use Rattle.mmdh.specs.Runs.{Within, left, Refilled}
 use Rattle.mmdh.specs.declared.Run.{Run}
@@ -56,15 +56,18 @@ at-front from n buf e = rw e
 pub read-behind : (n : ℕ) (buf room : List ℕ) → n ≤ length buf → take n (take n buf ++ room) ≡ take n buf
 read-behind n buf room h = take-at (take n buf) room n (length-take-le n buf h)
 
-pub refills : (r : Run) (n : ℕ) (over : Bool) (buf after : List ℕ) → Within r buf → length after ≡ length buf → r .to - r .from ≤ n → n ≤ length after
+pub refills : (r : Run) (n : ℕ) (buf after : List ℕ) → Within r buf → length after ≡ length buf → r .to - r .from ≤ n → n ≤ length after
     → take (r .to - r .from) after ≡ left r buf
-    → Refilled r (record { answer = r .answer; units = r .units; feed = r .feed; from = 0; to = n; over = over }) buf after
-refills r n over buf after w e h g k =
+    → Refilled r (record { answer = r .answer; units = r .units; feed = r .feed; from = 0; to = n; over = leb n (r .to - r .from) }) buf after
+refills r n buf after w e h g k =
     let size : length buf ≡ bufferSize = w .size in
     record {
       within = record { order = omega arith; inside = g; size = e ∙ size };
+      front = refl;
+      more = h;
       kept = take-take (r .to - r .from) (n - 0) after (omega arith) ∙ k;
       answer = refl;
       units = refl;
       feed = refl;
+      over = refl;
     }

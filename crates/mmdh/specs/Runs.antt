@@ -1,11 +1,15 @@
--- What a call and a read of the program come to (document 01, example 10). Assumes nothing.
-use Prim.Native.Nat.{ℕ, suc, _+_, _-_, _≤_}
+-- What a call, a read, a turn and the run of the program come to (document 01, example 10). Assumes nothing.
+use Prim.Native.Nat.{ℕ, _+_, _-_, _*_, _≤_}
 use mathlib.Core.Path.{_≡_}
-use mathlib.Core.Bool.{cond}
-use mathlib.Core.List.{List}
+use mathlib.Core.Bool.{true, false, cond}
+use mathlib.Core.List.{List, _++_}
 use lib.ListN.{length, take, drop}
-use Rattle.feed.specs.Steps.{accepted, lent, stateOf}
-use Rattle.feed.specs.Program.{bufferSize, Stand, follow}
+use lib.Dec.{ltb, leb}
+use Rattle.io.specs.Counts.{Counts}
+use Rattle.feed.specs.Events.{Arrive}
+use Rattle.feed.specs.Steps.{accepted, lent, stateOf, outOf, outcome}
+use Rattle.feed.specs.Program.{bufferSize, Stand, follow, printed}
+use Rattle.mmdh.specs.Text.{text}
 use Rattle.mmdh.specs.declared.Run.{Run}
 
 -- what is left lies within the buffer
@@ -22,17 +26,50 @@ left r buf = take (r .to - r .from) (drop (r .from) buf)
 abbrev pub standOf : Run → List ℕ → Stand
 standOf r table = record { answer = r .answer; units = r .units; state = stateOf (r .feed) (lent table) }
 
--- q is r after one call: the run of Program, from r on, is q where the call is not accepted, and else the run from q on
+-- Program's run over bytes from where a run stands
+abbrev pub runFrom : List ℕ → Stand → Stand
+runFrom s x = follow (length s + 1) s x
+
+-- q is r after one call at the bytes that are left: what the call hands back; the run is over where it is not accepted
 pub record Called (r q : Run) (buf table tableAfter : List ℕ) : Type 0 where
   pub within : Within q buf
-  pub counts : q .units ≤ r .units + 1
-  pub meets : (calls : ℕ) → follow (suc calls) (left r buf) (standOf r table)
-      ≡ cond (accepted (q .answer)) (follow calls (left q buf) (standOf q tableAfter)) (standOf q tableAfter)
+  pub forward : r .from ≤ q .from
+  pub end : q .to ≡ r .to
+  pub made : outOf (record { answer = q .answer; used = q .from - r .from; feed = q .feed }) (lent tableAfter) ≡ outcome (stateOf (r .feed) (lent table)) (Arrive (left r buf) 0)
+  pub units : q .units ≡ cond (accepted (q .answer)) (r .units + 1) (r .units)
+  pub over : q .over ≡ ltb 2 (q .answer)
 
--- q is r with more bytes read: those that were left are still there, first, and all else is as it was
+-- q is r with more bytes read: those that were left are still there, first, and all else is as it was; the run is over where none came
 pub record Refilled (r q : Run) (buf bufAfter : List ℕ) : Type 0 where
   pub within : Within q bufAfter
+  pub front : q .from ≡ 0
+  pub more : r .to - r .from ≤ q .to
   pub kept : take (r .to - r .from) (left q bufAfter) ≡ left r buf
   pub answer : q .answer ≡ r .answer
   pub units : q .units ≡ r .units
   pub feed : q .feed ≡ r .feed
+  pub over : q .over ≡ leb (q .to) (r .to - r .from)
+
+-- q is r some turns later, in which bytes came. While the run is not over: whatever comes after them, Program's run from r on is its
+-- run from q on; and each turn took a byte that came, or used one. Where it is over: Program's run from r on, over the bytes that came, ends at q
+pub record Turned (turns : ℕ) (r q : Run) (buf table bufAfter tableAfter : List ℕ) : Type 0 where
+  pub came : List ℕ
+  pub within : Within q bufAfter
+  pub counts : q .units ≤ r .units + turns
+  pub goes : q .over ≡ false → (rest : List ℕ) → runFrom (left r buf ++ (came ++ rest)) (standOf r table) ≡ runFrom (left q bufAfter ++ rest) (standOf q tableAfter)
+  pub pays : q .over ≡ false → turns + length (left q bufAfter) ≤ 2 * length came + length (left r buf)
+  pub ends : q .over ≡ true → runFrom (left r buf ++ came) (standOf r table) ≡ standOf q tableAfter
+
+-- q is r once no more bytes are read: over, and where Program's run from r on, over the bytes that are left, ends
+pub record Drained (r q : Run) (buf table tableAfter : List ℕ) : Type 0 where
+  pub over : q .over ≡ true
+  pub ends : r .over ≡ false → runFrom (left r buf) (standOf r table) ≡ standOf q tableAfter
+  pub same : r .over ≡ true → standOf q tableAfter ≡ standOf r table
+
+-- what stands in the first r bytes to be written: bytes came, and it is what Program prints of them; where the last answer is a refusal,
+-- whatever would have come after them
+pub record Wrote (out : List ℕ) (r : ℕ) : Type 0 where
+  pub came : List ℕ
+  pub counts : Counts r out
+  pub prints : take r out ≡ text (printed came)
+  pub still : (printed came .answer ≡ 3 → ⊥) → (rest : List ℕ) → take r out ≡ text (printed (came ++ rest))

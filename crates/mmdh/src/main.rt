@@ -1,10 +1,17 @@
 // The program (document 01, example 10): one connection's bytes from standard input, then the books and how the run ended.
 ghost use mathlib.Core.Path.{_≡_};
-ghost use Prim.Native.Nat.{_+_, _-_, _≤_, _<_};
-ghost use lib.ListN.{length, take, drop};
-ghost use Rattle.io.specs.Counts.{Counts};
-ghost use Rattle.feed.specs.Program.{connection};
-ghost use Rattle.mmdh.specs.Runs.{Within, Called, Refilled};
+ghost use Prim.Native.Nat.{_+_, _-_, _≤_, _<_, min};
+ghost use lib.ListN.{length, take, drop, replicate};
+ghost use mathlib.Core.Bool.{false, cond};
+ghost use mathlib.Core.List.{[], _∷_, _++_};
+ghost use lib.IntN.{subℕ};
+ghost use Rattle.wire.specs.Number.{bias};
+ghost use Rattle.slots.specs.Slots.{slotsOf, codeOf};
+ghost use Rattle.book.specs.Words.{bookWidth, rowsFrom};
+ghost use Rattle.feed.specs.Steps.{accepted};
+ghost use Rattle.feed.specs.Program.{bufferSize, connection, sideLines, lines};
+ghost use Rattle.mmdh.specs.Runs.{Within, Called, Refilled, Turned, Drained, Wrote};
+ghost use Rattle.mmdh.specs.Text.{decimal, signed, space, letter, lineOf, lineText, linesText, endText, shown, text, Put};
 use book::Row;
 use feed::Feed;
 use feed::Link;
@@ -33,7 +40,7 @@ fn connected() -> Feed
 // One more unit where an answer accepts it.
 fn counted(units: u64, answer: u64) -> u64
     requires { ⌜ units < 18446744073709551615 ⌝ }
-    ensures { λ r. ⌜ (answer ≤ 2 → r ≡ units + 1) × (2 < answer → r ≡ units) ⌝ }
+    ensures { λ r. ⌜ r ≡ cond (accepted answer) (units + 1) units ⌝ }
 {
     if answer <= 2 { units + 1 } else { units }
 }
@@ -116,7 +123,7 @@ fn more(r: Run, buf: &mut [u8]) -> Run
 // One turn: a call, and more bytes where it is answered More.
 fn turn(r: Run, table: &mut [u64], buf: &mut [u8]) -> Run
     requires { ⌜ Within r (now buf) × (r .units < 18446744073709551615) ⌝ }
-    ensures { λ q. ⌜ Within q (now (buf .exit)) × (q .units ≤ r .units + 1) ⌝ }
+    ensures { λ q. ⌜ Turned 1 r q (now (buf .entry)) (now (table .entry)) (now (buf .exit)) (now (table .exit)) ⌝ }
 {
     let q = called(r, table, buf);
     if q.answer == 3 {
@@ -125,15 +132,16 @@ fn turn(r: Run, table: &mut [u64], buf: &mut [u8]) -> Run
     q
 }
 
-// Turns until the run is over.
+// Turns until the run is over, or until there were more of them than any input can ask for.
 fn follow(start: Run, table: &mut [u64], buf: &mut [u8]) -> Run
-    requires { ⌜ Within start (now buf) × (start .units ≡ 0) ⌝ }
+    requires { ⌜ Within start (now buf) × (start .units ≡ 0) × (start .over ≡ false) ⌝ }
+    ensures { λ q. ⌜ Turned 9223372036854775808 start q (now (buf .entry)) (now (table .entry)) (now (buf .exit)) (now (table .exit)) ⌝ }
 {
     let mut r = start;
-    let mut turns = u64::MAX;
+    let mut turns: u64 = 9223372036854775808;
     while 0 < turns {
         if r.over {
-            break;
+            return r;
         }
         r = turn(r, table, buf);
         turns -= 1;
@@ -141,128 +149,168 @@ fn follow(start: Run, table: &mut [u64], buf: &mut [u8]) -> Run
     r
 }
 
-// Puts a text into a line: the place after it.
-fn put(line: &mut [u8], at: usize, text: &[u8]) -> usize
-    requires { ⌜ at + length (now text) ≤ length (now line) ⌝ }
-    ensures { λ r. ⌜ r ≡ at + length (now (text .entry)) ⌝ }
+// Turns with no more bytes, until the run is over.
+fn drain(start: Run, table: &mut [u64], buf: &[u8]) -> Run
+    requires { ⌜ Within start (now buf) × (start .units ≤ 9223372036854775808) ⌝ }
+    ensures { λ q. ⌜ Drained start q (now (buf .entry)) (now (table .entry)) (now (table .exit)) ⌝ }
+{
+    let mut r = start;
+    while !r.over {
+        r = called(r, table, buf);
+    }
+    r
+}
+
+// Puts a byte at a place: the place after it.
+fn put_byte(out: &mut [u8], at: usize, byte: u8) -> usize
+    requires { ⌜ at < length (now out) ⌝ }
+    ensures { λ r. ⌜ Put (byte ∷ []) 1 at (now (out .entry)) (now (out .exit)) r ⌝ }
+{
+    out[at] = byte;
+    at + 1
+}
+
+// Puts bytes at a place: the place after them.
+fn put(out: &mut [u8], at: usize, words: &[u8]) -> usize
+    requires { ⌜ at + length (now words) ≤ length (now out) ⌝ }
+    ensures { λ r. ⌜ Put (now (words .entry)) (length (now (words .entry))) at (now (out .entry)) (now (out .exit)) r ⌝ }
 {
     let mut i = 0;
-    while i < text.len() {
-        line[at + i] = text[i];
+    while i < words.len() {
+        out[at + i] = words[i];
         i += 1;
     }
     at + i
 }
 
-// Puts a byte into a line: the place after it.
-fn put_byte(line: &mut [u8], at: usize, byte: u8) -> usize
-    requires { ⌜ at < length (now line) ⌝ }
-    ensures { λ r. ⌜ r ≡ at + 1 ⌝ }
-{
-    line[at] = byte;
-    at + 1
-}
-
-// Puts a number, of at most 20 digits, and the byte that follows it into a line: the place after them.
-fn put_number(line: &mut [u8], at: usize, n: u64, after: u8) -> usize
-    requires { ⌜ at + 21 ≤ length (now line) ⌝ }
-    ensures { λ r. ⌜ r ≤ at + 21 ⌝ }
+// Puts a number, of at most 20 digits, and the byte that follows it at a place: the place after them.
+fn put_number(out: &mut [u8], at: usize, n: u64, after: u8) -> usize
+    requires { ⌜ at + 21 ≤ length (now out) ⌝ }
+    ensures { λ r. ⌜ Put (decimal n ++ (after ∷ [])) 21 at (now (out .entry)) (now (out .exit)) r ⌝ }
 {
     let mut digits = [0u8; 20];
     let k = io::decimal(n, &mut digits);
-    let end = put(line, at, &digits[..k]);
-    put_byte(line, end, after)
+    let end = put(out, at, &digits[..k]);
+    put_byte(out, end, after)
 }
 
-// Puts a price, in thousandths, from its word in the table, and a space into a line: the place after them.
-fn put_price(line: &mut [u8], at: usize, word: u64) -> usize
-    requires { ⌜ at + 22 ≤ length (now line) ⌝ }
-    ensures { λ r. ⌜ r ≤ at + 22 ⌝ }
+// Puts a price, in thousandths, from its word in the table, and a space at a place: the place after them.
+fn put_price(out: &mut [u8], at: usize, word: u64) -> usize
+    requires { ⌜ at + 22 ≤ length (now out) ⌝ }
+    ensures { λ r. ⌜ Put (signed (subℕ word bias) ++ space) 22 at (now (out .entry)) (now (out .exit)) r ⌝ }
 {
     if word < 2147483648 {
-        let first = put_byte(line, at, b'-');
-        return put_number(line, first, 2147483648 - word, b' ');
+        let first = put_byte(out, at, b'-');
+        return put_number(out, first, 2147483648 - word, b' ');
     }
-    put_number(line, at, word - 2147483648, b' ')
+    put_number(out, at, word - 2147483648, b' ')
 }
 
-// Puts the line of a row: how many bytes it has.
-fn put_row(line: &mut [u8], code: u64, side: u8, rank: u64, row: Row) -> usize
-    requires { ⌜ length (now line) ≡ 128 ⌝ }
-    ensures { λ r. ⌜ Counts r (now (line .exit)) ⌝ }
+// The letter of a side.
+fn letter_of(side: u64) -> u8
+    ensures { λ r. ⌜ r ≡ letter side ⌝ }
 {
-    let a = put_number(line, 0, code, b' ');
-    let b = put_byte(line, a, side);
-    let c = put_byte(line, b, b' ');
-    let d = put_number(line, c, rank, b' ');
-    let e = put_price(line, d, row.price);
-    let f = put_number(line, e, row.quantity, b' ');
-    put_number(line, f, row.orders, b'\n')
+    if side == 0 { b'B' } else { b'O' }
 }
 
-// Prints the line of a row.
-fn print_row(code: u64, side: u8, rank: u64, row: Row) {
-    let mut line = [0u8; 128];
-    let n = put_row(&mut line, code, side, rank, row);
-    io::write_all(1, &line[..n]);
-}
-
-// Prints the rows of one side, of which a book has at most ten.
-fn print_side(words: &[u64], code: u64, side: u8, base: usize, rows: u64)
-    requires { ⌜ base + 30 ≤ length (now words) ⌝ }
+// Puts the line of a row, of at most 108 bytes, at a place: the place after it.
+fn put_row(out: &mut [u8], at: usize, code: u64, side: u64, rank: u64, row: Row) -> usize
+    requires { ⌜ at + 108 ≤ length (now out) ⌝ }
+    ensures { λ r. ⌜ Put (lineText (lineOf code side rank row)) 108 at (now (out .entry)) (now (out .exit)) r ⌝ }
 {
-    for i in 0..10 {
-        if (i as u64) < rows {
-            print_row(code, side, i as u64 + 1, book::row_at(words, base + 3 * i));
-        }
-    }
+    let a = put_number(out, at, code, b' ');
+    let b = put_byte(out, a, letter_of(side));
+    let c = put_byte(out, b, b' ');
+    let d = put_number(out, c, rank, b' ');
+    let e = put_price(out, d, row.price);
+    let f = put_number(out, e, row.quantity, b' ');
+    put_number(out, f, row.orders, b'\n')
 }
 
-// Prints the rows of the book in a slot's words, bids before offers.
-fn print_book(words: &[u64])
-    requires { ⌜ length (now words) ≡ 64 ⌝ }
+// How many rows of a side there are by its count: at most ten.
+fn rows_in(count: u64) -> usize
+    ensures { λ r. ⌜ r ≡ min count 10 ⌝ }
+{
+    if count < 10 { count as usize } else { 10 }
+}
+
+// Puts the lines of one side of the book in a slot's words, its rows from word `base` on.
+fn put_side(out: &mut [u8], at: usize, words: &[u64], side: u64, base: usize, count: u64) -> usize
+    requires { ⌜ (length (now words) ≡ 64) × (base + 30 ≤ 64) × (at + 1080 ≤ length (now out)) ⌝ }
+    ensures { λ r. ⌜ Put (linesText (sideLines (codeOf (now (words .entry))) side 1 (take count (rowsFrom base (now (words .entry)))))) 1080 at (now (out .entry)) (now (out .exit)) r ⌝ }
 {
     let code = words[0];
-    if 0 < code {
-        print_side(words, code, b'B', 4, words[1]);
-        print_side(words, code, b'O', 34, words[2]);
+    let n = rows_in(count);
+    let mut end = at;
+    let mut i = 0;
+    while i < n {
+        end = put_row(
+            out,
+            end,
+            code,
+            side,
+            i as u64 + 1,
+            book::row_at(words, base + 3 * i),
+        );
+        i += 1;
     }
+    end
 }
 
-// Prints the rows in slot order, below the head line.
-fn print_books(table: &[u64])
-    requires { ⌜ length (now table) ≡ 8192 ⌝ }
+// Puts the lines of the book in a slot's words, bids before offers; none where the slot is free.
+fn put_book(out: &mut [u8], at: usize, words: &[u64]) -> usize
+    requires { ⌜ (length (now words) ≡ 64) × (at + 2160 ≤ length (now out)) ⌝ }
+    ensures { λ r. ⌜ Put (linesText (lines (now (words .entry) ∷ []))) 2160 at (now (out .entry)) (now (out .exit)) r ⌝ }
 {
-    io::write_all(1, b"code side rank price quantity orders\n");
-    for k in 0..128 {
+    if words[0] == 0 {
+        return at;
+    }
+    let mid = put_side(out, at, words, 0, 4, words[1]);
+    put_side(out, mid, words, 1, 34, words[2])
+}
+
+// Puts the lines of all books, in slot order.
+fn put_books(out: &mut [u8], at: usize, table: &[u64]) -> usize
+    requires { ⌜ (length (now table) ≡ 8192) × (at + 276480 ≤ length (now out)) ⌝ }
+    ensures { λ r. ⌜ Put (linesText (lines (slotsOf bookWidth (now (table .entry))))) 276480 at (now (out .entry)) (now (out .exit)) r ⌝ }
+{
+    let mut end = at;
+    let mut k = 0;
+    while k < 128 {
         let a = 64 * k;
         let b = a + 64;
-        print_book(&table[a..b]);
+        end = put_book(out, end, &table[a..b]);
+        k += 1;
     }
+    end
 }
 
-// Puts the last line, of the last answer and the units accepted: how many bytes it has.
-fn put_end(line: &mut [u8], answer: u64, units: u64) -> usize
-    requires { ⌜ length (now line) ≡ 128 ⌝ }
-    ensures { λ r. ⌜ Counts r (now (line .exit)) ⌝ }
+// Puts the last line, of the last answer and the units accepted.
+fn put_end(out: &mut [u8], at: usize, answer: u64, units: u64) -> usize
+    requires { ⌜ at + 52 ≤ length (now out) ⌝ }
+    ensures { λ r. ⌜ Put (endText answer units) 52 at (now (out .entry)) (now (out .exit)) r ⌝ }
 {
-    let a = put(line, 0, b"end ");
-    let b = put_number(line, a, answer, b' ');
-    let c = put(line, b, b"units ");
-    put_number(line, c, units, b'\n')
+    let a = put(out, at, b"end ");
+    let b = put_number(out, a, answer, b' ');
+    let c = put(out, b, b"units ");
+    put_number(out, c, units, b'\n')
 }
 
-// Prints the last line.
-fn print_end(answer: u64, units: u64) {
-    let mut line = [0u8; 128];
-    let n = put_end(&mut line, answer, units);
-    io::write_all(1, &line[..n]);
+// Puts all that is printed at the front: how many bytes it has.
+fn render(out: &mut [u8], table: &[u64], answer: u64, units: u64) -> usize
+    requires { ⌜ (length (now table) ≡ 8192) × (length (now out) ≡ 276569) ⌝ }
+    ensures { λ r. ⌜ Put (text (shown (now (table .entry)) answer units)) 276569 0 (now (out .entry)) (now (out .exit)) r ⌝ }
+{
+    let a = put(out, 0, b"code side rank price quantity orders\n");
+    let b = put_books(out, a, table);
+    put_end(out, b, answer, units)
 }
 
-// The run over standard input with 128 slots, and what it prints.
-fn main() {
-    let mut table = [0u64; 8192];
-    let mut buf = [0u8; 65536];
+// The run over standard input with 128 slots, into a buffer of what it prints: how many bytes that has.
+fn program(table: &mut [u64], buf: &mut [u8], out: &mut [u8]) -> usize
+    requires { ⌜ (now table ≡ replicate 8192 0) × (length (now buf) ≡ bufferSize) × (length (now out) ≡ 276569) ⌝ }
+    ensures { λ r. ⌜ Wrote (now (out .exit)) r ⌝ }
+{
     let feed = connected();
     let start = Run {
         answer: 0,
@@ -272,7 +320,19 @@ fn main() {
         to: 0,
         over: false,
     };
-    let end = follow(start, &mut table, &mut buf);
-    print_books(&table);
-    print_end(end.answer, end.units);
+    let last = follow(start, table, buf);
+    let end = drain(last, table, buf);
+    render(out, table, end.answer, end.units)
+}
+
+// Runs, and writes what is printed; a message where it cannot be written.
+fn main() {
+    let mut table = [0u64; 8192];
+    let mut buf = [0u8; 65536];
+    let mut out = [0u8; 276569];
+    let n = program(&mut table, &mut buf, &mut out);
+    let written = io::write_all(1, &out[..n]);
+    if !written {
+        io::write_all(2, b"mmdh: cannot write to standard output\n");
+    }
 }

@@ -1,15 +1,14 @@
-use Prim.Native.Nat.{_-_, _≤_}
-use mathlib.Core.Path.{_≡_}
+use Prim.Native.Nat.{_-_}
 use lib.ListN.{length}
-use borrow.Author.Needs.{needs}
+use Rattle.mmdh.proofs.Texts.{texts, Copied}
 use Rattle.mmdh.proofs.put.Statement.{statement}
 use Rattle.mmdh.proofs.put.Tie as tie
 
 abbrev Inv-loop : tie.InvT-loop
-Inv-loop line₀ at text i₀ line i = (length line ≡ length line₀) × (i ≤ length text)
+Inv-loop out₀ at words i₀ out i = Copied words out₀ at i out
 
 abbrev μ-loop : tie.MeasureT-loop
-μ-loop line₀ at text i₀ line i = length text - i
+μ-loop out₀ at words i₀ out i = length words - i
 
 pub put-spec : {M : Type 1} → statement M
 put-spec =
@@ -17,13 +16,13 @@ put-spec =
     (tie.spec
     Inv-loop
     μ-loop
-    (λ c. search needs)
-    (λ c. search needs)
-    (λ c. search needs)
-    (λ c. search needs)
-    (λ c. search needs)
-    (λ c. search needs)
-    (λ c. search needs)
-    (λ c. search needs)
-    (λ c. search needs)
-    (λ c. search needs))
+    (λ c. search texts)
+    (λ c. search texts)
+    (λ c. search texts)
+    (λ c. search texts)
+    (λ c. search texts)
+    (λ c. search texts)
+    (λ c. search texts)
+    (λ c. search texts)
+    (λ c. search texts)
+    (λ c. search texts))

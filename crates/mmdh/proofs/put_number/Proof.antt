@@ -1,7 +1,7 @@
 use Prim.Native.Nat.{_≤_}
 use native.Mathlib.Omega.{arith}
-use borrow.Author.Needs.{needs}
 use Rattle.mmdh.proofs.Laws.{few}
+use Rattle.mmdh.proofs.Texts.{texts}
 use Rattle.mmdh.proofs.put_number.Statement.{statement}
 use Rattle.mmdh.proofs.put_number.Tie as tie
 
@@ -16,19 +16,14 @@ put-byte-requires c κs =
     let d = c .before .before .before .before .before .before in
     omega (arith, few-digits d, d .decimal .ensures .0 .1)
 
-returns : tie.Need-returns
-returns c =
-    let d = c .before .before .before .before .before .before .before .before .before in
-    omega (arith, few-digits d, d .decimal .ensures .0 .1)
-
 pub put-number-spec : {M : Type 1} → statement M
 put-number-spec =
     tie.close
     (tie.spec
-    (λ c κs. search needs)
-    (λ c. search needs)
-    (λ c. search needs)
+    (λ c κs. search texts)
+    (λ c. search texts)
+    (λ c. search texts)
     put-requires
     put-byte-requires
-    (λ c. search needs)
-    returns)
+    (λ c. search texts)
+    (λ c. search texts))

@@ -1,6 +1,4 @@
-use native.Mathlib.Omega.{arith}
-use borrow.Author.Needs.{needs}
-use Rattle.io.proofs.Counting.{counts}
+use Rattle.mmdh.proofs.Texts.{texts}
 use Rattle.mmdh.proofs.put_row.Statement.{statement}
 use Rattle.mmdh.proofs.put_row.Tie as tie
 
@@ -8,12 +6,13 @@ pub put-row-spec : {M : Type 1} → statement M
 put-row-spec =
     tie.close
     (tie.spec
-    (λ c κs. search needs)
-    (λ c κs. search needs)
-    (λ c κs. search needs)
-    (λ c κs. search needs)
-    (λ c κs. search needs)
-    (λ c κs. search needs)
-    (λ c κs. search needs)
-    (λ c. search needs)
-    (λ c. counts _ _ (omega arith)))
+    (λ c κs. search texts)
+    (λ c κs. search texts)
+    (λ c κs. search texts)
+    (λ c κs. search texts)
+    (λ c κs. search texts)
+    (λ c κs. search texts)
+    (λ c κs. search texts)
+    (λ c κs. search texts)
+    (λ c. search texts)
+    (λ c. search texts))

@@ -1,0 +1,69 @@
+-- The whole program: what it writes is what Program prints of the bytes that came. Assumes nothing.
+use Prim.Native.Nat.{ℕ, _≤_}
+use mathlib.Core.Path.{_≡_, refl, ap, sym, _∙_}
+use mathlib.Core.Bool.{Bool, true, false}
+use mathlib.Core.List.{List, [], append-nil}
+use native.Mathlib.Omega.{arith}
+use lib.ListN.{length, replicate, length-replicate}
+use lib.Seq.{length-take-le}
+use borrow.Author.Needs.{needs}
+use Rattle.wire.specs.Choice as choice
+use Rattle.feed.specs.Events.{timeOf, news}
+use Rattle.feed.specs.Answers.{arrives, lacksNeed, isMore, lineTests, tableTests, tests}
+use Rattle.feed.specs.Events.{State, onMessage}
+use Rattle.feed.specs.Steps.{lent, stateOf, act, taken}
+use Rattle.feed.specs.Program.{Stand, connection, programRun}
+use Rattle.feed.specs.declared.Feed.{Feed}
+use Rattle.mmdh.specs.Text.{shown, text, Put}
+use Rattle.mmdh.specs.Runs.{standOf, runFrom, left, Turned, Drained, Wrote}
+use Rattle.mmdh.specs.declared.Run.{Run}
+use Rattle.mmdh.proofs.Follows.{refused-stays}
+
+-- a connect leaves the zeroed table as it is
+connection-is : stateOf (connection .feed) (lent (replicate 8192 0)) ≡ connection
+unfolding timeOf news tests lineTests tableTests choice.first arrives lacksNeed isMore onMessage act taken
+connection-is = refl
+
+abbrev begin : Stand
+begin = record { answer = 0; units = 0; state = connection }
+
+abbrev shows : Stand → List ℕ
+shows z = text (shown (z .state .tables .books) (z .answer) (z .units))
+
+pub table-long : (t u : List ℕ) → t ≡ replicate 8192 0 → length u ≡ length t → length u ≡ 8192
+table-long t u e h = h ∙ ap length e ∙ length-replicate {A = ℕ} 8192 0
+
+pub table-kept : (t u v : List ℕ) → t ≡ replicate 8192 0 → length u ≡ length t → length v ≡ length u → length v ≡ 8192
+table-kept t u v e h g = g ∙ table-long t u e h
+
+pub few-units : (r q : Run) (x t y u : List ℕ) → Turned 9223372036854775808 r q x t y u → r .units ≡ 0 → q .units ≤ 9223372036854775808
+few-units r q x t y u p e = omega (arith, p .counts)
+
+module _ (feed : Feed) (last end : Run) (buf table bufAfter tableAfter tableEnd : List ℕ) (f : feed ≡ connection .feed) (z : table ≡ replicate 8192 0)
+    (t : Turned 9223372036854775808 (record { answer = 0; units = 0; feed = feed; from = 0; to = 0; over = false }) last buf table bufAfter tableAfter)
+    (d : Drained last end bufAfter tableAfter tableEnd) where
+  begins : record { answer = 0; units = 0; state = stateOf feed (lent table) } ≡ begin
+  begins = rw (f, z) (ap (λ (s : State). record { answer = 0; units = 0; state = s }) connection-is)
+
+  ended : standOf end tableEnd ≡ programRun (t .came)
+  ended = go (last .over) refl
+    where
+      go : (b : Bool) → last .over ≡ b → standOf end tableEnd ≡ programRun (t .came)
+      go true e = d .same e ∙ sym (t .ends e) ∙ ap (runFrom (t .came)) begins
+      go false e =
+          sym (d .ends e)
+          ∙ ap (λ (l : List ℕ). runFrom l (standOf last tableAfter)) (sym (append-nil (left last bufAfter)))
+          ∙ sym (t .goes e [])
+          ∙ ap (λ (l : List ℕ). runFrom l (record { answer = 0; units = 0; state = stateOf feed (lent table) })) (append-nil (t .came))
+          ∙ ap (runFrom (t .came)) begins
+
+  pub wrote : (before out : List ℕ) (n : ℕ) → Put (text (shown tableEnd (end .answer) (end .units))) 276569 0 before out n → Wrote out n
+  wrote before out n p =
+      record {
+        came = t .came;
+        counts = (p .inside, sym (length-take-le n out (p .inside)));
+        prints = p .holds ∙ ap shows ended;
+        still = λ k rest. p .holds ∙ ap shows (ended ∙ sym (refused-stays (t .came) begin rest k));
+      }
+
+pub ruleset whole = (needs, table-long, table-kept, few-units, wrote)

@@ -1,0 +1,22 @@
+use Rattle.mmdh.proofs.Turns.{turning, Draining, toDo}
+use Rattle.mmdh.proofs.drain.Statement.{statement}
+use Rattle.mmdh.proofs.drain.Tie as tie
+
+abbrev Inv-loop : tie.InvT-loop
+Inv-loop table₀ buf r₀ table r = Draining r₀ r buf table₀ table
+
+abbrev μ-loop : tie.MeasureT-loop
+μ-loop table₀ buf r₀ table r = toDo r
+
+pub drain-spec : {M : Type 1} → statement M
+drain-spec =
+    tie.close
+    (tie.spec
+    Inv-loop
+    μ-loop
+    (λ c. search turning)
+    (λ c κs. search turning)
+    (λ c. search turning)
+    (λ c. search turning)
+    (λ c. search turning)
+    (λ c. search turning))
