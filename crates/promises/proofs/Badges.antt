@@ -41,7 +41,7 @@ unfolding is
 is-same p q e = sym (phase-back p) ∙ ap phaseOf (eqb-true (phaseNo p) (phaseNo q) e) ∙ phase-back q
 
 -- the flags of the history, as the phase has them
-abbrev Agree : Phase → Bool → Bool → Bool → Type 0
+abbrev pub Agree : Phase → Bool → Bool → Bool → Type 0
 Agree Idle up owed over = (up && not owed && not over) ≡ false
 Agree WaitKey up owed over = (up ≡ false) × (over ≡ false)
 Agree WaitLogon up owed over = (up ≡ false) × (over ≡ false)
@@ -50,10 +50,10 @@ Agree Live up owed over = (up ≡ true) × (owed ≡ false) × (over ≡ false)
 Agree Lost up owed over = (up && not owed && not over) ≡ false
 Agree Closed up owed over = (up && not owed && not over) ≡ false
 
-record Inv (limit : ℕ) (s : State) (h : History) : Type 0 where
-  agree : Agree (s .feed .phase) (h .up) (h .owed) (h .over)
-  heard : s .feed .heard ≡ h .heard
-  bound : s .feed .limit ≡ limit
+pub record Inv (limit : ℕ) (s : State) (h : History) : Type 0 where
+  pub agree : Agree (s .feed .phase) (h .up) (h .owed) (h .over)
+  pub heard : s .feed .heard ≡ h .heard
+  pub bound : s .feed .limit ≡ limit
 
 and-false : (a : Bool) → (a && false) ≡ false
 and-false true = refl
@@ -108,7 +108,7 @@ does-limit (Session Complete) time m s = refl
 does-limit (Session Request) time m s = refl
 does-limit (Market d) time m s = refl
 
-counted-phase : (k : Kind) (internal : ℕ) (f : Feed) → counted k internal f .phase ≡ f .phase
+pub counted-phase : (k : Kind) (internal : ℕ) (f : Feed) → counted k internal f .phase ≡ f .phase
 unfolding counted
 counted-phase k internal f = split (λ (g : Feed). g .phase ≡ f .phase) (market k && is (f .phase) Live) (internalIs internal f) f (λ e. refl) (λ e. refl)
 
@@ -116,7 +116,7 @@ counted-limit : (k : Kind) (internal : ℕ) (f : Feed) → counted k internal f 
 unfolding counted
 counted-limit k internal f = split (λ (g : Feed). g .limit ≡ f .limit) (market k && is (f .phase) Live) (internalIs internal f) f (λ e. refl) (λ e. refl)
 
-keeps : (limit : ℕ) → Keeps Any (Inv limit)
+pub keeps : (limit : ℕ) → Keeps Any (Inv limit)
 unfolding taken
 keeps limit = record {
   lost = λ s h i. record { agree = and-false (h .up && not (h .owed)); heard = i .heard; bound = i .bound };
@@ -178,15 +178,18 @@ new-limit limit = rw new-given (given-limit limit (listedLimit limit) refl)
 pub new-feed : (limit : ℕ) → newGiven limit .feed ≡ newFeed (newGiven limit .feed .limit)
 new-feed limit = rw new-given (given-new limit (listedLimit limit))
 
+pub inv-start : (limit n : ℕ) → Inv (start limit n .feed .limit) (start limit n) noHistory
+inv-start limit n =
+    let e = new-feed limit in
+    record {
+      agree = subst (λ (f : Feed). Agree (f .phase) false false false) (sym e) refl;
+      heard = ap (λ (f : Feed). f .heard) e;
+      bound = refl;
+    }
+
 -- DEMAND 3, the badge
 pub badge-green : (limit n : ℕ) (es : List Event) (time : ℕ)
     → eqb (badgeNo (badgeOf (run (start limit n) es .feed) time)) 1 ≡ green (history (start limit n) es) (start limit n .feed .limit) time
 badge-green limit n es time =
-    let e = new-feed limit in
     green-of (start limit n .feed .limit) (run (start limit n) es) (history (start limit n) es) time (new-limit limit)
-    (on-run Any (Inv (start limit n .feed .limit)) (keeps (start limit n .feed .limit)) es (start limit n) noHistory (any es)
-    (record {
-      agree = subst (λ (f : Feed). Agree (f .phase) false false false) (sym e) refl;
-      heard = ap (λ (f : Feed). f .heard) e;
-      bound = refl;
-    }))
+    (on-run Any (Inv (start limit n .feed .limit)) (keeps (start limit n .feed .limit)) es (start limit n) noHistory (any es) (inv-start limit n))

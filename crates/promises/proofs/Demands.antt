@@ -1,24 +1,28 @@
 -- The customer's demands, proved: each is named as its statement in specs/Demands, with a small letter. Assumes nothing.
-use Prim.Native.Nat.{ℕ, zero, suc, _+_, _≤_}
+use Prim.Native.Nat.{ℕ, zero}
 use mathlib.Core.Path.{_≡_, refl, sym, ap, _∙_, subst}
-use mathlib.Core.Bool.{Bool, true, false, true≢false}
+use mathlib.Core.Bool.{Bool, true, false, cond, not, true≢false}
+use mathlib.Core.Logic.{_⊎_, inl, inr, ⊎-elim}
 use mathlib.Core.List.{List, [], _∷_, _++_}
 use native.Mathlib.Omega.{arith}
 use lib.ListN.{length, take, drop}
 use lib.Dec.{T, leb, eqb}
 use borrow.Author.Tests.{not-false, eqb-true, leb-true}
 use Rattle.wire.specs.Choice.{oneOf, first, all}
-use Rattle.wire.proofs.Bools.{both}
+use Rattle.wire.proofs.Bools.{both, split}
 use Rattle.wire.specs.Units.{unitOf}
 use Rattle.wire.specs.declared.Unit.{Unit}
 use Rattle.wire.specs.declared.Unit.the-variants as unit
 use Rattle.wire.proofs.Fronts.{unit-fits, unit-stays}
-use Rattle.wire.proofs.Choices.{first-at, first-none, first-skips}
+use Rattle.wire.proofs.Choices.{first-may, first-skips}
 use Rattle.books.specs.Table.{unsound, noSlot, misfits, booksAfter}
 use Rattle.books.proofs.Frames.{books-own, books-slots, books-other, books-length, books-tail, book-sound-in}
 use Rattle.book.proofs.Orders.{price-once}
 use Rattle.book.specs.declared.Way.the-variants.{Bid, Offer}
+use Rattle.books.specs.Reading.{readAnswer, readRow}
+use Rattle.books.specs.declared.RowRead.{RowRead}
 use Rattle.feed.specs.Messages.{kind, onMarket, book}
+use Rattle.feed.specs.Feeds.{listedLimit, newFeed, newGiven}
 use Rattle.feed.specs.Events.{State, Event, News, Message, timeOf, cutFrom, news, offered, onMessage}
 use Rattle.feed.specs.Answers.{number, isNext, lineTests, tableTests, tests, answerTo, reply, ofBook}
 use Rattle.feed.specs.Steps.{tablesAfter, does, taken, act, accepted, usedOf, handed, outcome}
@@ -26,6 +30,8 @@ use Rattle.feed.specs.declared.Answer.{Answer}
 use Rattle.feed.specs.declared.Answer.the-variants.{Keep, Lose, Spoil, Skip, Take}
 use Rattle.feed.proofs.Laws.{numbered}
 use Rattle.promises.specs.Refusals.{keeping, losing, spoiling}
+use Rattle.feed.specs.declared.Given.{Given}
+use Rattle.feed.proofs.Arrivals as A
 use Rattle.promises.specs.Runs.{start, after, run}
 use Rattle.promises.specs.Demands as D
 use Rattle.promises.proofs.Refused as F
@@ -39,15 +45,41 @@ use Rattle.promises.proofs.Soundness.{all-sound, book-replayed}
 pub listed : D.Listed
 listed = F.answer-listed
 
+pub newListed : D.NewListed
+unfolding newGiven oneOf all
+newListed limit = go (listedLimit limit)
+  where
+    go : (b : Bool) → T (oneOf (first {A = Given} ((not b, record { answer = 19; used = 0; feed = newFeed 1000 }) ∷ []) (record { answer = 0; used = 0; feed = newFeed limit }) .answer) (19 ∷ 0 ∷ []))
+    go true = unfold first in tt
+    go false = unfold first in tt
+
+pub readListed : D.ReadListed
+unfolding readRow
+readListed code side rank t =
+    split (λ (r : RowRead). T (oneOf (r .answer) (15 ∷ 4 ∷ 18 ∷ 0 ∷ []))) (eqb (readAnswer code side rank t) 0) _ _ (λ e. unfold oneOf in tt) (λ e. answers)
+  where
+    answers : T (oneOf (readAnswer code side rank t) (15 ∷ 4 ∷ 18 ∷ 0 ∷ []))
+    answers = unfold readAnswer all oneOf in first-may (λ n. oneOf n (15 ∷ 4 ∷ 18 ∷ 0 ∷ [])) _ 0 tt tt
+
+-- a list of rows tells what the first that passes says, and nothing else
+tells : (ts : List (Bool × Answer)) (n : ℕ) → number (first ts (Take 0)) ≡ n → D.Tells ts n
+unfolding first number
+tells [] n e = sym e
+tells (t ∷ ts) n e = go (t .0) refl e (tells ts n)
+  where
+    go : (b : Bool) → t .0 ≡ b → number (cond b (t .1) (first ts (Take 0))) ≡ n → (number (first ts (Take 0)) ≡ n → D.Tells ts n)
+        → ((t .0 ≡ true) × (n ≡ number (t .1))) ⊎ ((t .0 ≡ false) × D.Tells ts n)
+    go true q e r = inl (q, sym e)
+    go false q e r = inr (q, r e)
+
+told : (ts : List (Bool × Answer)) (n : ℕ) → D.Tells ts n → number (first ts (Take 0)) ≡ n
+unfolding first number
+told [] n e = sym e
+told (t ∷ ts) n h = ⊎-elim (λ a. rw (a .0) (sym (a .1))) (λ a. rw (a .0) (told ts n (a .1))) h
+
 pub exactly : D.Exactly
 unfolding outcome handed
-exactly s e = (
-  λ before behind a q h. ap number (ap (λ (ts : List (Bool × Answer)). first ts (Take 0)) q ∙ first-at before behind a (Take 0) h),
-  λ h. ap number (first-none (D.rowsFor s e) (Take 0) h) ∙ zero-is,
-)
-  where
-    zero-is : number (Take 0) ≡ 0
-    zero-is = unfold number in refl
+exactly s e n = (tells (D.rowsFor s e) n, told (D.rowsFor s e) n)
 
 pub refused : D.Refused
 refused = F.refused
@@ -58,25 +90,8 @@ one = F.one-outcome
 pub same : D.Same
 same A x a b p q = p ∙ sym q
 
--- n bytes behind the first k stay when bytes follow
-part-stays : (k n : ℕ) (a b : List ℕ) → k + n ≤ length a → take n (drop k (a ++ b)) ≡ take n (drop k a)
-part-stays zero zero a b h = refl
-part-stays zero (suc n) [] b h = absurd (let z : ⊥ = omega arith in z)
-part-stays zero (suc n) (x ∷ a) b h = ap (_∷_ x) (part-stays zero n a b (omega arith))
-part-stays (suc k) n [] b h = absurd (let z : ⊥ = omega arith in z)
-part-stays (suc k) n (x ∷ a) b h = part-stays k n a b (omega arith)
-
-news-stay : (a b : List ℕ) (u : Unit) → unitOf a ≡ u → (u ≡ unit.More → ⊥) → cutFrom (a ++ b) u ≡ cutFrom a u
-unfolding cutFrom
-news-stay a b unit.More e h = absurd (h refl)
-news-stay a b unit.Heartbeat e h = refl
-news-stay a b (unit.Message q i n) e h = ap (Message q i) (part-stays 20 n a b (unit-fits a q i n e))
-
-pub pieces : D.Pieces
-unfolding outcome handed timeOf news offered usedOf
-pieces s a b time h =
-    let e : cutFrom (a ++ b) (unitOf (a ++ b)) ≡ cutFrom a (unitOf a) = rw (unit-stays a b h) (news-stay a b (unitOf a) refl h) in
-    rw e
+pub behind : D.Behind
+behind = A.pieces
 
 -- DEMAND 2
 isAccepted : Answer → Bool
@@ -98,7 +113,7 @@ next s e seq internal m b h =
     (eqb-true seq (s .feed .next) (q .0), leb-true seq 4294967295 (q .1))
 
 -- an answer of 0 is Taken
-zero-take : (a : Answer) → T (proper a) → number a ≡ 0 → a ≡ Take 0
+pub zero-take : (a : Answer) → T (proper a) → number a ≡ 0 → a ≡ Take 0
 unfolding proper number oneOf
 zero-take (Keep n) p e = absurd (subst (λ (k : ℕ). T (oneOf k keeping)) e p)
 zero-take (Lose n) p e = absurd (subst (λ (k : ℕ). T (oneOf k losing)) e p)

@@ -11,6 +11,7 @@ use Rattle.promises.specs.Sizes as Sizes
 use Rattle.promises.specs.Entries as Entries
 use Rattle.promises.specs.Tables as Tables
 use Rattle.promises.specs.Traps as Traps
+use Rattle.promises.specs.Mornings as Mornings
 use Rattle.promises.proofs.Computes.{computes}
 
 pub desk-hold : wrong Desk.desk ≡ []
@@ -156,3 +157,11 @@ programs2-hold = refl
 pub badges-hold : wrong Traps.badges ≡ []
 unfolding computes
 badges-hold = refl
+
+pub talks-hold : wrong Mornings.talks ≡ []
+unfolding computes
+talks-hold = refl
+
+pub ledgers-hold : wrong Mornings.ledgers ≡ []
+unfolding computes
+ledgers-hold = refl

@@ -7,3 +7,10 @@ pub mod Replays
 pub mod Soundness
 pub mod Demands
 pub mod Morning
+pub mod Ledgers
+pub mod NoHole
+pub mod Codes
+pub mod GoodMorning
+pub mod Leaves
+pub mod Decisions
+pub mod Pieces

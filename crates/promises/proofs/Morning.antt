@@ -4,7 +4,7 @@ use mathlib.Core.Path.{_≡_, refl, sym, ap, _∙_, subst}
 use mathlib.Core.Bool.{Bool, true, false, not, _&&_, true≢false}
 use mathlib.Core.List.{List, [], _∷_, _++_}
 use lib.Dec.{T, leb, eqb}
-use borrow.Author.Tests.{leb-true}
+use borrow.Author.Tests.{leb-true, eqb-true}
 use Rattle.wire.specs.Choice.{oneOf, all}
 use Rattle.wire.specs.Units.{unitOf}
 use Rattle.wire.specs.declared.Unit.{Unit}
@@ -30,7 +30,7 @@ use Rattle.feed.specs.declared.Status.the-variants.{Opens, Refills, Stays, Clos
 use Rattle.promises.specs.Runs.{start, after, run, trace, History, noHistory, noteHeard, noteOver, noteStatus, noteTaken, noteNews, note, recall, history, green}
 use Rattle.promises.specs.Demands as D
 use Rattle.promises.specs.Refusals.{ending}
-use Rattle.promises.specs.Demands.{notConnect, isLogon, notLogon}
+use Rattle.promises.specs.Demands.{isConnect, connects, letsIn, isLogon, logsOn}
 use Rattle.promises.proofs.Badges.{badge-green}
 use Rattle.promises.proofs.Soundness.{all-sound}
 
@@ -42,7 +42,7 @@ two false b h = absurd h
 notEighteen : Answer → Bool
 notEighteen a = not (eqb (number a) 18)
 
-sound-row : (m t : List ℕ) (k : Kind) → AllSound t → ofBook k (unsound m t) ≡ false
+pub sound-row : (m t : List ℕ) (k : Kind) → AllSound t → ofBook k (unsound m t) ≡ false
 unfolding ofBook unsound
 sound-row m t k a = no-second (onMarket book k) _ (no-second (hasEntries m) _ (never-unsound (securityCode m) t a))
 
@@ -61,30 +61,30 @@ never18 limit n es e h q =
     subst (λ (k : ℕ). T (not (eqb k 18))) q (no-eighteen s (timeOf e) (all-sound limit n es h) (news e))
 
 -- a run in two parts
-run-append : (es fs : List Event) (s : State) → run s (es ++ fs) ≡ run (run s es) fs
+pub run-append : (es fs : List Event) (s : State) → run s (es ++ fs) ≡ run (run s es) fs
 unfolding run
 run-append [] fs s = refl
 run-append (e ∷ es) fs s = run-append es fs (after s e)
 
-recall-append : (es fs : List Event) (s : State) (h : History) → recall h (trace s (es ++ fs)) ≡ recall (recall h (trace s es)) (trace (run s es) fs)
+pub recall-append : (es fs : List Event) (s : State) (h : History) → recall h (trace s (es ++ fs)) ≡ recall (recall h (trace s es)) (trace (run s es) fs)
 unfolding recall trace run
 recall-append [] fs s h = refl
 recall-append (e ∷ es) fs s h = recall-append es fs (after s e) (note h e (outcome s e .given .answer))
 
--- a property of histories that every note of some events keeps
-kept : (P : History → Type 0) (g : Event → Bool) → ((h : History) (e : Event) (n : ℕ) → T (g e) → P h → P (note h e n))
-    → (fs : List Event) (s : State) (h : History) → T (all g fs) → P h → P (recall h (trace s fs))
+-- a property of histories that every note but of some events and answers keeps
+kept : (P : History → Type 0) (g : Event × ℕ → Bool) → ((h : History) (e : Event) (n : ℕ) → T (not (g (e, n))) → P h → P (note h e n))
+    → (fs : List Event) (s : State) (h : History) → T (all (λ p. not (g p)) (trace s fs)) → P h → P (recall h (trace s fs))
 unfolding recall trace all
 kept P g k [] s h t p = p
 kept P g k (f ∷ fs) s h t p =
-    let q = two (g f) (all g fs) t in
+    let q = two (not (g (f, outcome s f .given .answer))) (all (λ p. not (g p)) (trace (after s f) fs)) t in
     kept P g k fs (after s f) (note h f (outcome s f .given .answer)) (q .1) (k h f (outcome s f .given .answer) (q .0) p)
 
 -- a note by its number
-noted : (P : History → Type 0) (h : History) (e : Event) (n : ℕ) → P (noteOver h) → P (noteNews (news e) (timeOf e) h) → P (noteHeard (timeOf e) h) → P h → P (note h e n)
+noted : (P : History → Type 0) (h : History) (e : Event) (n : ℕ) → P (noteOver h) → (accepted n ≡ true → P (noteNews (news e) (timeOf e) h)) → P (noteHeard (timeOf e) h) → P h → P (note h e n)
 unfolding note
 noted P h e n a b c d =
-    split P (oneOf n ending) _ _ (λ t. a) (λ t. split P (eqb n 0) _ _ (λ t. b) (λ t. split P (accepted n) _ _ (λ t. c) (λ t. d)))
+    split P (oneOf n ending) _ _ (λ t. a) (λ t. split P (eqb n 0) _ _ (λ t. b (rw (eqb-true n 0 t))) (λ t. split P (accepted n) _ _ (λ t. c) (λ t. d)))
 
 -- that it is over stays, as long as no connect comes
 Over : History → Type 0
@@ -115,15 +115,24 @@ over-cut s time h p unit.More = p
 over-cut s time h p unit.Heartbeat = p
 over-cut s time h p (unit.Message seq internal size) = over-taken (kind _) time _ h p
 
-over-news : (e : Event) (h : History) → T (notConnect e) → Over h → Over (noteNews (news e) (timeOf e) h)
+over-news : (e : Event) (h : History) → isConnect e ≡ false → Over h → Over (noteNews (news e) (timeOf e) h)
 unfolding news timeOf Over noteNews
-over-news (Connect link time) h t p = absurd t
+over-news (Connect link time) h t p = absurd (true≢false t)
 over-news (Arrive bytes time) h t p = over-cut bytes time h p (unitOf bytes)
 over-news (Cut seq internal m time) h t p = over-taken (kind m) time m h p
 
-over-note : (h : History) (e : Event) (n : ℕ) → T (notConnect e) → Over h → Over (note h e n)
-unfolding Over
-over-note h e n t p = noted Over h e n refl (over-news e h t p) p p
+-- what a test that failed says, where the answer was accepted
+is-no : (b : Bool) → T (not b) → b ≡ false
+is-no true h = absurd h
+is-no false h = refl
+
+not-second : (a b : Bool) → T (not (a && b)) → a ≡ true → b ≡ false
+not-second true b t e = is-no b t
+not-second false b t e = absurd (true≢false (sym e))
+
+over-note : (h : History) (e : Event) (n : ℕ) → T (not (connects (e, n))) → Over h → Over (note h e n)
+unfolding Over connects
+over-note h e n t p = noted Over h e n refl (λ a. over-news e h (not-second (accepted n) (isConnect e) t a) p) p p
 
 -- nor is it up and not over before a logon response
 Dark : History → Type 0
@@ -133,10 +142,18 @@ and-false : (a : Bool) → (a && false) ≡ false
 and-false true = refl
 and-false false = refl
 
-dark-taken : (k : Kind) (time : ℕ) (m : List ℕ) (h : History) → isLogon k ≡ false → Dark h → Dark (noteTaken k time m h)
+dark-status : (st : Status) (h : History) → letsIn st ≡ false → Dark h → Dark (noteStatus st h)
+unfolding Dark noteStatus letsIn
+dark-status Opens h e p = absurd (true≢false e)
+dark-status Refills h e p = absurd (true≢false e)
+dark-status Stays h e p = p
+dark-status Closes h e p = p
+dark-status Unlisted h e p = p
+
+dark-taken : (k : Kind) (time : ℕ) (m : List ℕ) (h : History) → isLogon k m ≡ false → Dark h → Dark (noteTaken k time m h)
 unfolding Dark noteTaken isLogon
 dark-taken (Session SendKey) time m h e p = p
-dark-taken (Session Logon) time m h e p = absurd (true≢false e)
+dark-taken (Session Logon) time m h e p = unfold Dark in dark-status (statusOf (logonStatus m)) h e p
 dark-taken (Session Logout) time m h e p = and-false (h .up)
 dark-taken (Session Refresh) time m h e p = p
 dark-taken (Session Complete) time m h e p = p
@@ -144,20 +161,16 @@ dark-taken (Session Request) time m h e p = p
 dark-taken (Market Book) time m h e p = p
 dark-taken (Market Other) time m h e p = p
 
-is-no : (b : Bool) → T (not b) → b ≡ false
-is-no true h = absurd h
-is-no false h = refl
-
-dark-news : (n : News) (time : ℕ) (h : History) → T (not (onMessage (λ seq internal m. isLogon (kind m)) n)) → Dark h → Dark (noteNews n time h)
+dark-news : (n : News) (time : ℕ) (h : History) → onMessage (λ seq internal m. isLogon (kind m) m) n ≡ false → Dark h → Dark (noteNews n time h)
 unfolding Dark noteNews onMessage
 dark-news (Linked link) time h t p = refl
 dark-news More time h t p = p
 dark-news Heartbeat time h t p = p
-dark-news (Message seq internal m) time h t p = dark-taken (kind m) time m h (is-no (isLogon (kind m)) t) p
+dark-news (Message seq internal m) time h t p = dark-taken (kind m) time m h t p
 
-dark-note : (h : History) (e : Event) (n : ℕ) → T (notLogon e) → Dark h → Dark (note h e n)
-unfolding Dark
-dark-note h e n t p = noted Dark h e n (and-false (h .up)) (dark-news (news e) (timeOf e) h t p) p p
+dark-note : (h : History) (e : Event) (n : ℕ) → T (not (logsOn (e, n))) → Dark h → Dark (note h e n)
+unfolding Dark logsOn
+dark-note h e n t p = noted Dark h e n (and-false (h .up)) (λ a. dark-news (news e) (timeOf e) h (not-second (accepted n) _ t a) p) p p
 
 -- an arrival answered 12 to 18 makes it over
 late : (h : History) (e : Event) (n : ℕ) → T (oneOf n ending) → note h e n ≡ noteOver h
@@ -193,7 +206,7 @@ unfolding Over
 lostStaysDark limit n es e fs time t c =
     let s : State = run (start limit n) es in
     dark-badge limit n es e fs time
-    (over-dark _ (kept Over notConnect over-note fs (after s e) (note (history (start limit n) es) e (outcome s e .given .answer)) c
+    (over-dark _ (kept Over connects over-note fs (after s e) (note (history (start limit n) es) e (outcome s e .given .answer)) c
     (ap (λ (h : History). h .over) (late (history (start limit n) es) e (outcome s e .given .answer) t))))
 
 pub darkBeforeLogon : D.DarkBeforeLogon
@@ -201,7 +214,7 @@ unfolding Dark
 darkBeforeLogon limit n es e fs time t c =
     let s : State = run (start limit n) es in
     dark-badge limit n es e fs time
-    (kept Dark notLogon dark-note fs (after s e) (note (history (start limit n) es) e (outcome s e .given .answer)) c
+    (kept Dark logsOn dark-note fs (after s e) (note (history (start limit n) es) e (outcome s e .given .answer)) c
     (rw (late (history (start limit n) es) e (outcome s e .given .answer) t) (and-false (history (start limit n) es .up))))
 
 pub quiet : D.Quiet

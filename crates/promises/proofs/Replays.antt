@@ -128,7 +128,7 @@ after-message n (Market Book) time m s h i = record {
 }
 after-message n (Market Other) time m s h i = record { fresh = i .fresh; table = i .table; ours = i .ours }
 
-counted-fresh : (k : Kind) (internal : ℕ) (f : Feed) → counted k internal f .fresh ≡ f .fresh
+pub counted-fresh : (k : Kind) (internal : ℕ) (f : Feed) → counted k internal f .fresh ≡ f .fresh
 unfolding counted
 counted-fresh k internal f = split (λ (g : Feed). g .fresh ≡ f .fresh) (market k && is (f .phase) Live) (internalIs internal f) f (λ e. refl) (λ e. refl)
 

@@ -47,7 +47,7 @@ two true b h = (tt, h)
 two false b h = absurd h
 
 -- every code's book, after the deeds ds
-abbrev Booked : List ℕ → List Deed → Type 0
+abbrev pub Booked : List ℕ → List Deed → Type 0
 Booked t ds = (c : ℕ) → (c ≡ 0 → ⊥) → bookIn c t ≡ replayOn c ds Walk.emptyBook
 
 replayOn-snoc : (c : ℕ) (ds : List Deed) (d : Deed) (b : Walk.Book) → replayOn c (ds ++ (d ∷ [])) b ≡ performOn c d (replayOn c ds b)
@@ -55,10 +55,10 @@ unfolding replayOn
 replayOn-snoc c [] d b = refl
 replayOn-snoc c (e ∷ ds) d b = replayOn-snoc c ds d (performOn c e b)
 
-record Inv (n : ℕ) (s : State) (h : History) : Type 0 where
-  base : R.Inv n s h
-  sounds : AllSound (s .tables .books)
-  booked : Booked (s .tables .books) (h .deeds)
+pub record Inv (n : ℕ) (s : State) (h : History) : Type 0 where
+  pub base : R.Inv n s h
+  pub sounds : AllSound (s .tables .books)
+  pub booked : Booked (s .tables .books) (h .deeds)
 
 -- a book message that is taken, on each code's book
 module _ (time : ℕ) (m t : List ℕ) (s : unsound m t ≡ false) (f : noSlot m t ≡ false) (g : misfits time m t ≡ false) where
@@ -109,10 +109,10 @@ after-message n (Market Book) time m s h b x y z i = (
 )
 after-message n (Market Other) time m s h b x y z i = (i .sounds, i .booked)
 
-abbrev OfBytes : List ℕ → Type 0
+abbrev pub OfBytes : List ℕ → Type 0
 OfBytes m = T (bytesOnly m)
 
-keeps : (n : ℕ) → Keeps OfBytes (Inv n)
+pub keeps : (n : ℕ) → Keeps OfBytes (Inv n)
 unfolding taken
 keeps n =
     let K = R.keeps n in
@@ -134,13 +134,13 @@ bytes-cut s h unit.More = tt
 bytes-cut s h unit.Heartbeat = tt
 bytes-cut s h (unit.Message seq internal size) = is-T _ (all-take _ size (drop 20 s) (all-drop _ 20 s (of-T _ h)))
 
-bytes-news : (e : Event) → T (handsBytes e) → OfNews OfBytes (news e)
+pub bytes-news : (e : Event) → T (handsBytes e) → OfNews OfBytes (news e)
 unfolding handsBytes news
 bytes-news (Connect link time) h = tt
 bytes-news (Arrive bytes time) h = bytes-cut bytes h (unitOf bytes)
 bytes-news (Cut seq internal m time) h = h
 
-bytes-each : (es : List Event) → Bytes es → Each OfBytes es
+pub bytes-each : (es : List Event) → Bytes es → Each OfBytes es
 unfolding all
 bytes-each [] h = tt
 bytes-each (e ∷ es) h =
@@ -158,7 +158,7 @@ inv-start limit n = record {
   booked = λ c z. subst (λ (t : List ℕ). bookIn c t ≡ Walk.emptyBook) (sym (zeros-cleared n)) (cleared-empty c (replicate n 0) z);
 }
 
-inv-run : (limit n : ℕ) (es : List Event) → Bytes es → Inv n (run (start limit n) es) (history (start limit n) es)
+pub inv-run : (limit n : ℕ) (es : List Event) → Bytes es → Inv n (run (start limit n) es) (history (start limit n) es)
 inv-run limit n es h = on-run OfBytes (Inv n) (keeps n) es (start limit n) noHistory (bytes-each es h) (inv-start limit n)
 
 -- DEMAND 3, soundness, and the books one by one

@@ -11,7 +11,7 @@ use Rattle.books.specs.Table.{unsound, noSlot, misfits}
 use Rattle.feed.specs.Messages.{kind, onMarket, book, wrongSize, listed}
 use Rattle.feed.specs.Feeds.{inPhase, heardAt, wholeIs}
 use Rattle.feed.specs.Events.{State, Event, News, Linked, More, Heartbeat, Message, news, timeOf, onMessage}
-use Rattle.feed.specs.Answers.{number, arrives, lacksNeed, isMore, isNext, allowed, ofBook, passed, lineTests, tableTests, tests, answerTo, reply}
+use Rattle.feed.specs.Answers.{number, arrives, lacksNeed, isMore, isNext, allowed, seen, ofBook, passed, lineTests, tableTests, tests, answerTo, reply}
 use Rattle.feed.specs.Steps.{onFeed, connected, advanced, taken, act, accepted, handed, outcome}
 use Rattle.feed.specs.declared.Phase.the-variants.{Lost}
 use Rattle.feed.specs.declared.Kind.{Kind}
@@ -30,6 +30,7 @@ pub record Fine (s : State) (time seq internal : ℕ) (m : List ℕ) : Type 0 wh
   pub size : wrongSize m ≡ false
   pub next : isNext (s .feed) seq ≡ true
   pub allow : allowed (kind m) (s .feed .phase) internal ≡ true
+  pub unseen : seen (s .feed) (kind m) internal ≡ false
   pub fields : listed (kind m) m ≡ true
   pub sound : ofBook (kind m) (unsound m (s .tables .books)) ≡ false
   pub room : ofBook (kind m) (noSlot m (s .tables .books)) ≡ false
@@ -46,6 +47,7 @@ fine s time seq internal m n e =
       size = fails 12 tt;
       next = not-false (isNext (s .feed) seq) (fails 13 tt);
       allow = not-false (allowed (kind m) (s .feed .phase) internal) (fails 14 tt);
+      unseen = fails 1 tt;
       fields = not-false (listed (kind m) m) (fails 15 tt);
       sound = fails 18 tt;
       room = fails 17 tt;
@@ -67,7 +69,7 @@ Each P (e ∷ es) = OfNews P (news e) × Each P es
 abbrev pub Any : List ℕ → Type 0
 Any m = Unit {0}
 
-any-news : (n : News) → OfNews Any n
+pub any-news : (n : News) → OfNews Any n
 any-news (Linked link) = tt
 any-news More = tt
 any-news Heartbeat = tt
@@ -88,7 +90,7 @@ pub record Keeps (P : List ℕ → Type 0) (I : State → History → Type 0) : 
       → I (taken time (Message seq internal m) s) (noteHeard time (noteTaken (kind m) time m h))
 
 -- a market message that is passed over leaves no note but its time
-noted : (k : Kind) (time : ℕ) (m : List ℕ) (h : History) → passed k ≡ true → noteTaken k time m h ≡ h
+pub noted : (k : Kind) (time : ℕ) (m : List ℕ) (h : History) → passed k ≡ true → noteTaken k time m h ≡ h
 unfolding passed onMarket book noteTaken
 noted (Session s) time m h e = absurd (true≢false (sym e))
 noted (Market Book) time m h e = absurd (true≢false (sym e))
@@ -102,7 +104,7 @@ isTwo (Spoil n) = false
 isTwo (Skip n) = false
 isTwo (Take n) = eqb n 2
 
-two-passed : (s : State) (time : ℕ) (n : News) → answerTo (s .feed) (s .tables) time n ≡ Take 2 → T (onMessage (λ seq internal m. passed (kind m)) n)
+pub two-passed : (s : State) (time : ℕ) (n : News) → answerTo (s .feed) (s .tables) time n ≡ Take 2 → T (onMessage (λ seq internal m. passed (kind m)) n)
 unfolding isTwo tests lineTests tableTests all onMessage arrives lacksNeed isMore
 two-passed s time (Linked link) e =
     absurd (subst (λ (a : Answer). T (not (isTwo a))) e (first-may (λ a. not (isTwo a)) (tests (s .feed) (s .tables) time (Linked link)) (Take 0) tt tt))

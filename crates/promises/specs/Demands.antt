@@ -1,8 +1,9 @@
 -- The customer's three demands as statements. Each is proved in proofs/Demands, under its name with a small letter. Assumes nothing.
 use Prim.Native.Nat.{ℕ, _+_, _*_, _≤_, _<_}
 use mathlib.Core.Path.{_≡_}
-use mathlib.Core.Bool.{Bool, true, false, not}
+use mathlib.Core.Bool.{Bool, true, false, not, _&&_}
 use mathlib.Core.List.{List, [], _∷_, _++_}
+use mathlib.Core.Logic.{_⊎_}
 use mathlib.Core.Option.{some}
 use lib.ListN.{length, drop, getD}
 use lib.Dec.{T, eqb}
@@ -18,8 +19,9 @@ use Rattle.book.specs.Walk.{Book, emptyBook, bookAfter}
 use Rattle.book.specs.Words.{bookWidth, sound}
 use Rattle.book.specs.Loading.{SoundBook}
 use Rattle.books.specs.Table.{placeIn, block, bookAt}
-use Rattle.feed.specs.Messages.{kind}
-use Rattle.feed.specs.Feeds.{badgeNo, badgeOf}
+use Rattle.books.specs.Reading.{readRow}
+use Rattle.feed.specs.Messages.{kind, statusOf, logonStatus}
+use Rattle.feed.specs.Feeds.{newGiven, badgeNo, badgeOf}
 use Rattle.feed.specs.Events.{State, Event, Connect, Arrive, Cut, Message, news, timeOf, onMessage}
 use Rattle.feed.specs.Answers.{number, tests}
 use Rattle.feed.specs.Steps.{accepted, Outcome, outcome}
@@ -28,8 +30,10 @@ use Rattle.feed.specs.declared.Kind.{Kind}
 use Rattle.feed.specs.declared.Kind.the-variants.{Session, Market}
 use Rattle.feed.specs.declared.Session.the-variants.{SendKey, Logon, Logout, Refresh, Complete, Request}
 use Rattle.feed.specs.declared.Datum.the-variants as datum
+use Rattle.feed.specs.declared.Status.{Status}
+use Rattle.feed.specs.declared.Status.the-variants.{Opens, Refills, Stays, Closes, Unlisted}
 use Rattle.promises.specs.Refusals.{answersTo, refusal}
-use Rattle.promises.specs.Runs.{zeroed, start, after, run, history, green, replay, replayOn}
+use Rattle.promises.specs.Runs.{zeroed, start, after, run, trace, history, green, replay, replayOn}
 
 -- the rows of document 01's table of answers for a call
 abbrev pub rowsFor : State → Event → List (Bool × Answer)
@@ -39,13 +43,20 @@ rowsFor s e = tests (s .feed) (s .tables) (timeOf e) (news e)
 abbrev pub Listed : Type 0
 Listed = (s : State) (e : Event) → T (oneOf (outcome s e .given .answer) (answersTo e))
 
--- .. under exactly its stated condition: that of the first row whose test passes, and 0 where none does
+-- .. a new feed and reading a row too ..
+abbrev pub NewListed : Type 0
+NewListed = (limit : ℕ) → T (oneOf (newGiven limit .answer) (19 ∷ 0 ∷ []))
+
+abbrev pub ReadListed : Type 0
+ReadListed = (code side rank : ℕ) (t : List ℕ) → T (oneOf (readRow code side rank t .answer) (15 ∷ 4 ∷ 18 ∷ 0 ∷ []))
+
+-- .. under exactly its stated condition, both ways: n is the number of the first row whose test passes, and 0 where none does
+abbrev pub Tells : List (Bool × Answer) → ℕ → Type 0
+Tells [] n = n ≡ 0
+Tells (t ∷ ts) n = ((t .0 ≡ true) × (n ≡ number (t .1))) ⊎ ((t .0 ≡ false) × Tells ts n)
+
 abbrev pub Exactly : Type 0
-Exactly =
-    (s : State) (e : Event)
-    → ((before behind : List (Bool × Answer)) (a : Answer)
-    → rowsFor s e ≡ before ++ ((true, a) ∷ behind) → T (all (λ t. not (t .0)) before) → outcome s e .given .answer ≡ number a)
-    × (T (all (λ t. not (t .0)) (rowsFor s e)) → outcome s e .given .answer ≡ 0)
+Exactly = (s : State) (e : Event) (n : ℕ) → (outcome s e .given .answer ≡ n → Tells (rowsFor s e) n) × (Tells (rowsFor s e) n → outcome s e .given .answer ≡ n)
 
 -- "A refused arrival writes nothing to the book table, and document 01 says what becomes of the feed"
 abbrev pub Refused : Type 0
@@ -59,9 +70,9 @@ One = (s : State) (e : Event) (a b : Outcome) → a ≡ outcome s e → b ≡ ou
 abbrev pub Same : Type 1
 Same = (A : Type 0) (x a b : A) → a ≡ x → b ≡ x → a ≡ b
 
--- what is answered to a unit that has come whole does not hang on the bytes behind it: a stream may come in any pieces
-abbrev pub Pieces : Type 0
-Pieces = (s : State) (a b : List ℕ) (time : ℕ) → (unitOf a ≡ unit.More → ⊥) → outcome s (Arrive (a ++ b) time) ≡ outcome s (Arrive a time)
+-- what is answered to a unit that has come whole does not hang on the bytes behind it (specs/Pieces: so a stream may come in any pieces)
+abbrev pub Behind : Type 0
+Behind = (s : State) (a b : List ℕ) (time : ℕ) → (unitOf a ≡ unit.More → ⊥) → outcome s (Arrive (a ++ b) time) ≡ outcome s (Arrive a time)
 
 -- DEMAND 2. "A counted message is acted on only when its number is the next"
 abbrev pub Next : Type 0
@@ -146,34 +157,50 @@ Green =
 
 -- THE MORNING OF THE INCIDENT. After a lost message (or any arrival answered 12 to 18) the badge is not green at any time,
 -- whatever comes, as long as no connect is accepted
-abbrev pub notConnect : Event → Bool
-notConnect (Connect link time) = false
-notConnect (Arrive bytes time) = true
-notConnect (Cut seq internal m time) = true
+abbrev pub isConnect : Event → Bool
+isConnect (Connect link time) = true
+isConnect (Arrive bytes time) = false
+isConnect (Cut seq internal m time) = false
+
+unfoldable pub connects : Event × ℕ → Bool
+connects p = accepted (p .1) && isConnect (p .0)
+
+-- an event answered 12 to 18
+abbrev pub Fails : ℕ → ℕ → List Event → Event → Type 0
+Fails limit n es e = T (oneOf (outcome (run (start limit n) es) e .given .answer) (12 ∷ 13 ∷ 14 ∷ 15 ∷ 16 ∷ 17 ∷ 18 ∷ []))
+
+-- none of the events fs that follow es and e, with their answers, passes a test
+abbrev pub NoneOf : (Event × ℕ → Bool) → ℕ → ℕ → List Event → Event → List Event → Type 0
+NoneOf test limit n es e fs = T (all (λ p. not (test p)) (trace (after (run (start limit n) es) e) fs))
 
 abbrev pub LostStaysDark : Type 0
 LostStaysDark =
-    (limit n : ℕ) (es : List Event) (e : Event) (fs : List Event) (time : ℕ)
-    → T (oneOf (outcome (run (start limit n) es) e .given .answer) (12 ∷ 13 ∷ 14 ∷ 15 ∷ 16 ∷ 17 ∷ 18 ∷ [])) → T (all notConnect fs)
+    (limit n : ℕ) (es : List Event) (e : Event) (fs : List Event) (time : ℕ) → Fails limit n es e → NoneOf connects limit n es e fs
     → eqb (badgeNo (badgeOf (run (start limit n) (es ++ (e ∷ fs)) .feed) time)) 1 ≡ false
 
--- and it is not green either, connects or not, before a logon response has come
-unfoldable pub isLogon : Kind → Bool
-isLogon (Session SendKey) = false
-isLogon (Session Logon) = true
-isLogon (Session Logout) = false
-isLogon (Session Refresh) = false
-isLogon (Session Complete) = false
-isLogon (Session Request) = false
-isLogon (Market d) = false
+-- and it is not green either, connects or not, before a logon is accepted: "only 0, 2 and 101 are an accepted logon"
+unfoldable pub letsIn : Status → Bool
+letsIn Opens = true
+letsIn Refills = true
+letsIn Stays = false
+letsIn Closes = false
+letsIn Unlisted = false
 
-abbrev pub notLogon : Event → Bool
-notLogon e = not (onMessage (λ seq internal m. isLogon (kind m)) (news e))
+unfoldable pub isLogon : Kind → List ℕ → Bool
+isLogon (Session SendKey) m = false
+isLogon (Session Logon) m = letsIn (statusOf (logonStatus m))
+isLogon (Session Logout) m = false
+isLogon (Session Refresh) m = false
+isLogon (Session Complete) m = false
+isLogon (Session Request) m = false
+isLogon (Market d) m = false
+
+unfoldable pub logsOn : Event × ℕ → Bool
+logsOn p = accepted (p .1) && onMessage (λ seq internal m. isLogon (kind m) m) (news (p .0))
 
 abbrev pub DarkBeforeLogon : Type 0
 DarkBeforeLogon =
-    (limit n : ℕ) (es : List Event) (e : Event) (fs : List Event) (time : ℕ)
-    → T (oneOf (outcome (run (start limit n) es) e .given .answer) (12 ∷ 13 ∷ 14 ∷ 15 ∷ 16 ∷ 17 ∷ 18 ∷ [])) → T (all notLogon fs)
+    (limit n : ℕ) (es : List Event) (e : Event) (fs : List Event) (time : ℕ) → Fails limit n es e → NoneOf logsOn limit n es e fs
     → eqb (badgeNo (badgeOf (run (start limit n) (es ++ (e ∷ fs)) .feed) time)) 1 ≡ false
 
 -- when the line goes quiet, the badge is not green at any time more than the limit after the last connect or arrival that was accepted, nor before it

@@ -12,3 +12,10 @@ pub mod Traps
 pub mod Refusals
 pub mod Runs
 pub mod Demands
+pub mod Ledger
+pub mod NoHole
+pub mod GoodMorning
+pub mod Mornings
+pub mod Leaves
+pub mod Decisions
+pub mod Pieces

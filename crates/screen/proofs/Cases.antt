@@ -7,13 +7,14 @@ use borrow.Author.Needs.{needs}
 use borrow.Author.Tests.{eq-eqb, ne-eqb}
 use Rattle.feed.specs.Feeds.{phaseNo, phaseOf, newGiven}
 use Rattle.feed.specs.Events.{Tables, Event, Connect}
-use Rattle.feed.specs.Steps.{lent, stateOf, outOf, Outcome, outcome}
+use Rattle.feed.specs.Steps.{lent, stateOf, outOf, outcome}
 use Rattle.feed.specs.declared.Phase.{Phase}
 use Rattle.feed.specs.declared.Link.{Link}
 use Rattle.feed.specs.declared.Link.the-variants.{Fresh, Resuming}
 use Rattle.feed.specs.declared.Feed.{Feed}
 use Rattle.feed.specs.declared.Given.{Given}
 use Rattle.screen.specs.Plain.{yes, bit, linkOf, feedOf, plainFeed, plainGiven, plainOut, plainOutcome, plainRow}
+use Rattle.screen.specs.Border.{handsBack, Connects}
 use Rattle.books.specs.declared.RowRead.{RowRead}
 use Rattle.screen.specs.declared.MmdhRow.{MmdhRow}
 use Rattle.screen.specs.declared.MmdhFeed.{MmdhFeed}
@@ -59,8 +60,8 @@ new-plain limit g r e h = rw (← e) h
 
 pub connect-plain : (c : MmdhFeed) (f : Feed) (resuming time : ℕ) (link : Link) (g : Given) (r : MmdhGiven) → f ≡ feedOf c → link ≡ linkOf resuming
     → ((x : Tables) → record { given = g; tables = x } ≡ outcome (record { feed = f; tables = x }) (Connect link time)) → r ≡ plainGiven g
-    → (x : Tables) → r ≡ plainGiven (outcome (record { feed = feedOf c; tables = x }) (Connect (linkOf resuming) time) .given)
-connect-plain c f resuming time link g r a b e h x = h ∙ rw (← a, ← b) (ap (λ (o : Outcome). plainGiven (o .given)) (e x))
+    → (t : List ℕ) → plainOut r t ≡ handsBack c t (Connects resuming time)
+connect-plain c f resuming time link g r a b e h t = rw (h, ← a, ← b) (ap plainOutcome (e (record { books = t })))
 
 pub arrive-plain : (c : MmdhFeed) (f : Feed) (t u : List ℕ) (e : Event) (g : Given) (r : MmdhGiven) → f ≡ feedOf c
     → outOf g (lent u) ≡ outcome (stateOf f (lent t)) e → r ≡ plainGiven g → plainOut r u ≡ plainOutcome (outcome (stateOf (feedOf c) (lent t)) e)

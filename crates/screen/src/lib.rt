@@ -1,10 +1,11 @@
 // The library by plain C calls, for the screens: numbers, structs of numbers by value, and slices as pointer and length.
+ghost use Prim.Native.Nat.{ℕ};
 ghost use mathlib.Core.Path.{_≡_};
+ghost use mathlib.Core.List.{List};
 ghost use Rattle.books.specs.Reading.{readRow};
 ghost use Rattle.feed.specs.Feeds.{newGiven, plainBadge};
-ghost use Rattle.feed.specs.Events.{Tables, Connect, Arrive, Cut};
-ghost use Rattle.feed.specs.Steps.{lent, stateOf, outcome};
-ghost use Rattle.screen.specs.Plain.{yes, bit, linkOf, feedOf, plainFeed, plainGiven, plainOut, plainOutcome, plainRow};
+ghost use Rattle.screen.specs.Plain.{yes, bit, linkOf, feedOf, plainFeed, plainGiven, plainOut, plainRow};
+ghost use Rattle.screen.specs.Border.{Connects, Arrives, ArrivesCut, handsBack};
 use books::RowRead;
 use feed::Feed;
 use feed::Given;
@@ -130,7 +131,7 @@ pub extern "C" fn mmdh_new(limit: u64) -> MmdhGiven
 // A connect: fresh where `resuming` is 0, else resuming.
 #[no_mangle]
 pub extern "C" fn mmdh_connect(feed: MmdhFeed, resuming: u64, time: u64) -> MmdhGiven
-    ensures { λ r. ⌜ ((x : Tables) → r ≡ plainGiven (outcome (record { feed = feedOf feed; tables = x }) (Connect (linkOf resuming) time) .given)) ⌝ }
+    ensures { λ r. ⌜ ((t : List ℕ) → plainOut r t ≡ handsBack feed t (Connects resuming time)) ⌝ }
 {
     plain_given(feed_of(feed).connect(link_of(resuming), time))
 }
@@ -143,7 +144,7 @@ pub extern "C" fn mmdh_arrive(
     bytes: &[u8],
     time: u64,
 ) -> MmdhGiven
-    ensures { λ r. ⌜ plainOut r (now (table .exit)) ≡ plainOutcome (outcome (stateOf (feedOf feed) (lent (now (table .entry)))) (Arrive (now (bytes .entry)) time)) ⌝ }
+    ensures { λ r. ⌜ plainOut r (now (table .exit)) ≡ handsBack feed (now (table .entry)) (Arrives (now (bytes .entry)) time) ⌝ }
 {
     plain_given(feed_of(feed).arrive(table, bytes, time))
 }
@@ -158,7 +159,7 @@ pub extern "C" fn mmdh_arrive_cut(
     message: &[u8],
     time: u64,
 ) -> MmdhGiven
-    ensures { λ r. ⌜ plainOut r (now (table .exit)) ≡ plainOutcome (outcome (stateOf (feedOf feed) (lent (now (table .entry)))) (Cut seq internal (now (message .entry)) time)) ⌝ }
+    ensures { λ r. ⌜ plainOut r (now (table .exit)) ≡ handsBack feed (now (table .entry)) (ArrivesCut seq internal (now (message .entry)) time) ⌝ }
 {
     plain_given(feed_of(feed).arrive_cut(table, seq, internal, message, time))
 }

@@ -1,0 +1,503 @@
+-- The good morning, proved. Assumes nothing.
+use Prim.Native.Nat.{ℕ, zero, suc, _+_, _≤_}
+use native.Mathlib.Omega.{arith}
+use mathlib.Core.Path.{_≡_, refl, sym, ap, _∙_, subst}
+use mathlib.Core.Bool.{Bool, true, false, cond, not, _&&_, _||_, true≢false}
+use mathlib.Core.List.{List, [], _∷_, _++_}
+use lib.ListN.{length, drop}
+use lib.Dec.{T, ltb, leb, eqb}
+use borrow.Author.Tests.{not-true, eqb-true, leb-true, le-leb, le-ltb}
+use Rattle.wire.specs.Choice.{oneOf, pick, first, all}
+use Rattle.wire.proofs.Bools.{both, join, no-second}
+use Rattle.slots.specs.Slots.{slotCount, cleared as clearedWords}
+use Rattle.book.specs.Message.{securityCode, listedCode, listedEntry, listedBook, entries}
+use Rattle.book.specs.Walk.{emptyBook, bookAfter}
+use Rattle.books.specs.Table.{placeIn, noneFree, bookMet, misfit, hasEntries, noSlot, misfits, unsound, booksAfter}
+use Rattle.feed.specs.Messages.{kind, onMarket, market, book, wrongSize, listed, statusOf, logonStatus, lastInternal}
+use Rattle.feed.specs.Feeds.{is, deaf, inPhase, internalIs, colour, badgeNo, badge, badgeOf, listedLimit}
+use Rattle.feed.specs.Events.{Tables, State, Event, Connect, News, Linked, More, Heartbeat, Message, news, timeOf, onMessage}
+use Rattle.feed.specs.Answers.{number, arrives, lacksNeed, isMore, lastSeqNum, isNext, allowed, seen, ofBook, passed, lineTests, tableTests, tests, answerTo, reply}
+use Rattle.feed.specs.declared.Answer.{Answer}
+use Rattle.feed.specs.declared.Answer.the-variants.{Skip, Take}
+use Rattle.feed.specs.Steps.{onFeed, cleared, enterLive, connected, loggedOn, tablesAfter, does, advanced, counted, taken, act, accepted, handed, outcome}
+use Rattle.feed.specs.declared.Phase.{Phase}
+use Rattle.feed.specs.declared.Phase.the-variants.{WaitKey, WaitLogon, Refreshing, Live}
+use Rattle.feed.specs.declared.Kind.{Kind}
+use Rattle.feed.specs.declared.Kind.the-variants.{Session, Market}
+use Rattle.feed.specs.declared.Session.{Session as SessionOf}
+use Rattle.feed.specs.declared.Session.the-variants.{SendKey, Logon, Logout, Refresh, Complete, Request}
+use Rattle.feed.specs.declared.Datum.{Datum}
+use Rattle.feed.specs.declared.Datum.the-variants.{Book, Other}
+use Rattle.feed.specs.declared.Status.{Status}
+use Rattle.feed.specs.declared.Status.the-variants.{Opens, Refills, Stays, Closes, Unlisted}
+use Rattle.feed.specs.declared.Feed.{Feed}
+use Rattle.feed.specs.declared.Link.the-variants.{Fresh}
+use Rattle.promises.specs.Runs.{start, after, run, trace, Deed, Took, History, noHistory, noteHeard, noteOver, noteNews, noteStatus, noteTaken, note, recall, history, replayOn}
+use Rattle.promises.specs.Demands.{Bytes, handsBytes, bookIn, letsIn}
+use Rattle.promises.specs.Refusals.{ending}
+use Rattle.promises.specs.GoodMorning as G
+use Rattle.promises.specs.Refusals.{ending}
+use Rattle.promises.specs.GoodMorning.{Stage, NeedsKey, NeedsLogon, Fills, Open, stageNo, on, Talk, begins, toStage, lastIs, tells, spoken, withCode, due, again, fits, good, fairNews, fair, afterLogon, told, says, saidNews, talk, fairly}
+use Rattle.promises.proofs.Steps.{Any, any, noted as no-note, on-step, on-run}
+use Rattle.promises.proofs.Badges as B
+use Rattle.promises.proofs.Badges.{new-limit, counted-phase}
+use Rattle.promises.proofs.Replays.{counted-fresh}
+use Rattle.promises.proofs.Soundness as S
+use Rattle.promises.proofs.Soundness.{OfBytes, bytes-news}
+use Rattle.promises.proofs.Morning.{sound-row, run-append, recall-append}
+use Rattle.promises.proofs.Ledgers.{does-next, counted-next}
+use Rattle.promises.proofs.Codes.{Filled, none-filled, room, books-filled}
+
+-- the phase of a stage
+abbrev phaseFor : Stage → Phase
+phaseFor NeedsKey = WaitKey
+phaseFor NeedsLogon = WaitLogon
+phaseFor Fills = Refreshing
+phaseFor Open = Live
+
+is-key : (g : Stage) → is (phaseFor g) WaitKey ≡ on g NeedsKey
+unfolding is on
+is-key NeedsKey = refl
+is-key NeedsLogon = refl
+is-key Fills = refl
+is-key Open = refl
+
+is-logon : (g : Stage) → is (phaseFor g) WaitLogon ≡ on g NeedsLogon
+unfolding is on
+is-logon NeedsKey = refl
+is-logon NeedsLogon = refl
+is-logon Fills = refl
+is-logon Open = refl
+
+is-fills : (g : Stage) → is (phaseFor g) Refreshing ≡ on g Fills
+unfolding is on
+is-fills NeedsKey = refl
+is-fills NeedsLogon = refl
+is-fills Fills = refl
+is-fills Open = refl
+
+is-open : (g : Stage) → is (phaseFor g) Live ≡ on g Open
+unfolding is on
+is-open NeedsKey = refl
+is-open NeedsLogon = refl
+is-open Fills = refl
+is-open Open = refl
+
+not-deaf : (g : Stage) → deaf (phaseFor g) ≡ false
+unfolding deaf is
+not-deaf NeedsKey = refl
+not-deaf NeedsLogon = refl
+not-deaf Fills = refl
+not-deaf Open = refl
+
+-- a stage is known by its number
+stageOf : ℕ → Stage
+stageOf n = pick n ((0, NeedsKey) ∷ (1, NeedsLogon) ∷ (2, Fills) ∷ []) Open
+
+stage-back : (g : Stage) → stageOf (stageNo g) ≡ g
+unfolding stageOf pick
+stage-back NeedsKey = refl
+stage-back NeedsLogon = refl
+stage-back Fills = refl
+stage-back Open = refl
+
+on-same : (g q : Stage) → on g q ≡ true → g ≡ q
+unfolding on
+on-same g q e = sym (stage-back g) ∙ ap stageOf (eqb-true (stageNo g) (stageNo q) e) ∙ stage-back q
+
+-- what is due is allowed
+due-allowed : (k : Kind) (g : Stage) (internal : ℕ) (m : List ℕ) → due k g internal m ≡ true → allowed k (phaseFor g) internal ≡ true
+unfolding due allowed
+due-allowed (Session SendKey) g internal m e = is-key g ∙ e
+due-allowed (Session Logon) g internal m e = is-logon g ∙ both (on g NeedsLogon) _ e .0
+due-allowed (Session Refresh) g internal m e = is-fills g ∙ e
+due-allowed (Session Complete) g internal m e = is-fills g ∙ e
+due-allowed (Session Logout) g internal m e = absurd (true≢false (sym e))
+due-allowed (Session Request) g internal m e = absurd (true≢false (sym e))
+due-allowed (Market d) g internal m e = rw (is-fills g, is-open g) e
+
+-- what the feed, the table and the history have of what was said: before the logon nothing
+abbrev Told : Stage → ℕ → List ℕ → List Deed → ℕ → List Deed → List ℕ → Type 0
+Told NeedsKey i t ds last deeds codes = (last ≡ 0) × (deeds ≡ []) × (codes ≡ [])
+Told NeedsLogon i t ds last deeds codes = (last ≡ 0) × (deeds ≡ []) × (codes ≡ [])
+Told Fills i t ds last deeds codes = (i ≡ last) × (ds ≡ deeds) × Filled t codes
+Told Open i t ds last deeds codes = (i ≡ last) × (ds ≡ deeds) × Filled t codes
+
+record Core (f : Feed) (t : List ℕ) (ds : List Deed) (w : Talk) : Type 0 where
+  phase : f .phase ≡ phaseFor (w .stage)
+  fresh : f .fresh ≡ true
+  told : Told (w .stage) (f .internal) t ds (w .last) (w .deeds) (w .codes)
+
+record Goes (s : State) (h : History) (w : Talk) : Type 0 where
+  core : Core (s .feed) (s .tables .books) (h .deeds) w
+  next : s .feed .next ≡ w .next
+  heard : s .feed .heard ≡ w .at
+
+-- at a market message the stage is one of two
+market-told : (g : Stage) (d : Datum) (internal : ℕ) (m : List ℕ) (i : ℕ) (t : List ℕ) (ds : List Deed) (last : ℕ) (deeds : List Deed) (codes : List ℕ)
+    → due (Market d) g internal m ≡ true → Told g i t ds last deeds codes → (i ≡ last) × (ds ≡ deeds) × Filled t codes
+unfolding due on
+market-told NeedsKey d internal m i t ds last deeds codes e q = absurd (true≢false (sym e))
+market-told NeedsLogon d internal m i t ds last deeds codes e q = absurd (true≢false (sym e))
+market-told Fills d internal m i t ds last deeds codes e q = q
+market-told Open d internal m i t ds last deeds codes e q = q
+
+market-tells : (g : Stage) (d : Datum) (internal : ℕ) (m : List ℕ) (i : ℕ) (t : List ℕ) (ds : List Deed) (last : ℕ) (deeds : List Deed) (codes : List ℕ)
+    → due (Market d) g internal m ≡ true → (i ≡ last) × (ds ≡ deeds) × Filled t codes → Told g i t ds last deeds codes
+unfolding due on
+market-tells NeedsKey d internal m i t ds last deeds codes e q = absurd (true≢false (sym e))
+market-tells NeedsLogon d internal m i t ds last deeds codes e q = absurd (true≢false (sym e))
+market-tells Fills d internal m i t ds last deeds codes e q = q
+market-tells Open d internal m i t ds last deeds codes e q = q
+
+-- said again is Seen
+session-unseen : (f : Feed) (s : SessionOf) (internal : ℕ) → seen f (Session s) internal ≡ false
+unfolding seen market onMarket
+session-unseen f s internal = go (is (f .phase) Live)
+  where
+    go : (b : Bool) → (b && false && leb internal (f .internal)) ≡ false
+    go true = refl
+    go false = refl
+
+seen-again : (f : Feed) (w : Talk) (d : Datum) (internal : ℕ) → f .phase ≡ phaseFor (w .stage) → f .internal ≡ w .last → seen f (Market d) internal ≡ again w internal
+unfolding seen market onMarket again
+seen-again f w d internal p q = rw (p, q, is-open (w .stage)) (go (on (w .stage) Open))
+  where
+    go : (b : Bool) → (b && true && leb internal (w .last)) ≡ (b && leb internal (w .last))
+    go true = refl
+    go false = refl
+
+-- the answer to a message whose number is next and which is allowed
+answer-open : (f : Feed) (x : Tables) (time seq internal : ℕ) (m : List ℕ) → ltb time (f .heard) ≡ false → deaf (f .phase) ≡ false → wrongSize m ≡ false
+    → isNext f seq ≡ true → allowed (kind m) (f .phase) internal ≡ true → seen f (kind m) internal ≡ true
+    → answerTo f x time (Message seq internal m) ≡ Skip 1
+unfolding tests lineTests tableTests first onMessage arrives lacksNeed isMore
+answer-open f x time seq internal m a b c d e g = rw (a, b, c, d, e, g)
+
+answer-taken : (f : Feed) (x : Tables) (time seq internal : ℕ) (m : List ℕ) → ltb time (f .heard) ≡ false → deaf (f .phase) ≡ false → wrongSize m ≡ false
+    → isNext f seq ≡ true → allowed (kind m) (f .phase) internal ≡ true → seen f (kind m) internal ≡ false → listed (kind m) m ≡ true
+    → ofBook (kind m) (unsound m (x .books)) ≡ false → ofBook (kind m) (noSlot m (x .books)) ≡ false → ofBook (kind m) (misfits time m (x .books)) ≡ false
+    → answerTo f x time (Message seq internal m) ≡ cond (passed (kind m)) (Take 2) (Take 0)
+unfolding tests lineTests tableTests first onMessage arrives lacksNeed isMore
+answer-taken f x time seq internal m a b c d e g l u v z = rw (a, b, c, d, e, g, l, u, v, z)
+
+-- a book message that fits what was said: there is a slot, it fits the table, and the codes are then as told
+abbrev Fitting : ℕ → List ℕ → List ℕ → Talk → Type 0
+Fitting time m t w = (noSlot m t ≡ false) × (misfits time m t ≡ false) × Filled (booksAfter time m t) (cond (hasEntries m) (withCode (securityCode m) (w .codes)) (w .codes))
+
+module _ (time : ℕ) (m t : List ℕ) (w : Talk) (nz : securityCode m ≡ 0 → ⊥) (filled : Filled t (w .codes))
+    (same : bookIn (securityCode m) t ≡ replayOn (securityCode m) (w .deeds) emptyBook) where
+  book-fits : fits (slotCount 64 (length t)) w time Book m ≡ true → Fitting time m t w
+  unfolding fits noSlot misfits booksAfter
+  book-fits f = go (hasEntries m) refl f
+    where
+      go : (b : Bool) → hasEntries m ≡ b
+          → (not b || (leb (length (withCode (securityCode m) (w .codes))) (slotCount 64 (length t)) && not (misfit (bookAfter time m (replayOn (securityCode m) (w .deeds) emptyBook))))) ≡ true
+          → ((b && noneFree (placeIn (securityCode m) t)) ≡ false) × ((b && misfit (bookMet time m t)) ≡ false)
+          × Filled (booksAfter time m t) (cond b (withCode (securityCode m) (w .codes)) (w .codes))
+      go true e f =
+          let q = both (leb (length (withCode (securityCode m) (w .codes))) (slotCount 64 (length t))) _ f in
+          let l = leb-true (length (withCode (securityCode m) (w .codes))) (slotCount 64 (length t)) (q .0) in
+          let x : misfit (bookMet time m t) ≡ false = rw same (not-true (misfit (bookAfter time m (replayOn (securityCode m) (w .deeds) emptyBook))) (q .1)) in
+          (room (securityCode m) t (w .codes) filled l, x, books-filled time m t (w .codes) nz filled e x l)
+      go false e f = (refl, refl, rw e filled)
+
+-- what a message leaves
+opened : (s : State) (h : History) (w : Talk) (b c : Bool) → b ≡ true → c ≡ true → s .feed .fresh ≡ true → Told NeedsLogon (s .feed .internal) (s .tables .books) (h .deeds) (w .last) (w .deeds) (w .codes)
+    → Core (enterLive (cond b (cleared s) s .feed)) (cond b (cleared s) s .tables .books) (cond c [] (h .deeds)) (toStage Open w)
+opened s h w true true e f r q =
+    record { phase = refl; fresh = r; told = (sym (q .0), sym (q .1), subst (λ (cs : List ℕ). Filled (clearedWords 64 (s .tables .books)) cs) (sym (q .2)) (none-filled (s .tables .books))) }
+opened s h w true false e f r q = absurd (true≢false (sym f))
+opened s h w false c e f r q = absurd (true≢false (sym e))
+
+after-logon : (st : Status) (s : State) (h : History) (w : Talk) → letsIn st ≡ true → s .feed .fresh ≡ true → h .fresh ≡ true
+    → Told NeedsLogon (s .feed .internal) (s .tables .books) (h .deeds) (w .last) (w .deeds) (w .codes)
+    → Core (loggedOn st s .feed) (loggedOn st s .tables .books) (noteStatus st h .deeds) (afterLogon st w)
+unfolding letsIn loggedOn noteStatus afterLogon
+after-logon Opens s h w e r f q = opened s h w (s .feed .fresh) (h .fresh) r f r q
+after-logon Refills s h w e r f q =
+    record { phase = refl; fresh = r; told = (sym (q .0), sym (q .1), subst (λ (cs : List ℕ). Filled (clearedWords 64 (s .tables .books)) cs) (sym (q .2)) (none-filled (s .tables .books))) }
+after-logon Stays s h w e r f q = absurd (true≢false (sym e))
+after-logon Closes s h w e r f q = absurd (true≢false (sym e))
+after-logon Unlisted s h w e r f q = absurd (true≢false (sym e))
+
+counted-last : (f : Feed) (g : Stage) (d : Datum) (internal last : ℕ) → f .phase ≡ phaseFor g → f .internal ≡ last
+    → counted (Market d) internal f .internal ≡ cond (on g Open) internal last
+unfolding counted market onMarket
+counted-last f g d internal last p q =
+    let e : is (f .phase) Live ≡ on g Open = ap (λ (p : Phase). is p Live) p ∙ is-open g in
+    rw e (go (on g Open))
+  where
+    go : (b : Bool) → cond b (internalIs internal f) f .internal ≡ cond b internal last
+    go true = refl
+    go false = q
+
+module _ (time internal : ℕ) (m : List ℕ) (s : State) (h : History) (w : Talk) (c : Core (s .feed) (s .tables .books) (h .deeds) w) (hf : h .fresh ≡ true) where
+  at-stage : (g : Stage) → on (w .stage) g ≡ true → Told g (s .feed .internal) (s .tables .books) (h .deeds) (w .last) (w .deeds) (w .codes)
+  at-stage g e = subst (λ (g : Stage). Told g (s .feed .internal) (s .tables .books) (h .deeds) (w .last) (w .deeds) (w .codes)) (on-same (w .stage) g e) (c .told)
+
+  on-market : (d : Datum) (t : List ℕ) (ds deeds : List Deed) (codes : List ℕ) → due (Market d) (w .stage) internal m ≡ true
+      → ds ≡ deeds → Filled t codes
+      → Core (counted (Market d) internal (s .feed)) t ds (record { stage = w .stage; next = w .next; last = cond (on (w .stage) Open) internal (w .last); at = w .at; deeds = deeds; codes = codes })
+  on-market d t ds deeds codes e same filled =
+      let q = market-told (w .stage) d internal m (s .feed .internal) (s .tables .books) (h .deeds) (w .last) (w .deeds) (w .codes) e (c .told) in
+      record {
+        phase = counted-phase (Market d) internal (s .feed) ∙ c .phase;
+        fresh = counted-fresh (Market d) internal (s .feed) ∙ c .fresh;
+        told =
+            market-tells (w .stage) d internal m (counted (Market d) internal (s .feed) .internal) t ds (cond (on (w .stage) Open) internal (w .last)) deeds codes e
+            (counted-last (s .feed) (w .stage) d internal (w .last) (c .phase) (q .0), same, filled);
+      }
+
+  -- where a book message is not said again, it fits
+  after-kind : (k : Kind) → due k (w .stage) internal m ≡ true → (k ≡ Market Book → Filled (booksAfter time m (s .tables .books)) (cond (hasEntries m) (withCode (securityCode m) (w .codes)) (w .codes)))
+      → seen (s .feed) k internal ≡ false
+      → Core (counted k internal (does k time m s .feed)) (does k time m s .tables .books) (noteTaken k time m h .deeds) (says k time internal m w)
+  unfolding due does noteTaken says told counted market onMarket tablesAfter
+  after-kind (Session SendKey) e b u = record { phase = refl; fresh = c .fresh; told = at-stage NeedsKey e }
+  after-kind (Session Logon) e b u =
+      let q = both (on (w .stage) NeedsLogon) (letsIn (statusOf (logonStatus m))) e in
+      after-logon (statusOf (logonStatus m)) s h w (q .1) (c .fresh) hf (at-stage NeedsLogon (q .0))
+  after-kind (Session Logout) e b u = absurd (true≢false (sym e))
+  after-kind (Session Refresh) e b u = c
+  after-kind (Session Complete) e b u =
+      let q : Told Fills (s .feed .internal) (s .tables .books) (h .deeds) (w .last) (w .deeds) (w .codes) = at-stage Fills e in
+      record { phase = refl; fresh = c .fresh; told = (refl, q .1, q .2) }
+  after-kind (Session Request) e b u = absurd (true≢false (sym e))
+  after-kind (Market Book) e b u =
+      let q = market-told (w .stage) Book internal m (s .feed .internal) (s .tables .books) (h .deeds) (w .last) (w .deeds) (w .codes) (unfold due in e) (c .told) in
+      rw (sym (seen-again (s .feed) w Book internal (c .phase) (q .0)) ∙ u)
+      (on-market Book (booksAfter time m (s .tables .books)) (h .deeds ++ (Took time m ∷ [])) (w .deeds ++ (Took time m ∷ []))
+      (cond (hasEntries m) (withCode (securityCode m) (w .codes)) (w .codes)) e (ap (λ (ds : List Deed). ds ++ (Took time m ∷ [])) (q .1)) (b refl))
+  after-kind (Market Other) e b u =
+      let q = market-told (w .stage) Other internal m (s .feed .internal) (s .tables .books) (h .deeds) (w .last) (w .deeds) (w .codes) (unfold due in e) (c .told) in
+      rw (sym (seen-again (s .feed) w Other internal (c .phase) (q .0)) ∙ u)
+      (on-market Other (s .tables .books) (h .deeds) (w .deeds) (w .codes) e (q .1) (q .2))
+
+-- a step that is accepted, and goes as told
+abbrev noted : History → News → ℕ → ℕ → History
+noted h x time k = cond (oneOf k ending) (noteOver h) (cond (eqb k 0) (noteNews x time h) (cond (accepted k) (noteHeard time h) h))
+
+record Stepped (s : State) (h : History) (x : News) (time : ℕ) (w : Talk) : Type 0 where
+  fine : accepted (number (answerTo (s .feed) (s .tables) time x)) ≡ true
+  goes : Goes (act (answerTo (s .feed) (s .tables) time x) time x s) (noted h x time (number (answerTo (s .feed) (s .tables) time x))) w
+
+by-answer : (s : State) (h : History) (x : News) (time : ℕ) (w : Talk) (a : Answer) → answerTo (s .feed) (s .tables) time x ≡ a → accepted (number a) ≡ true
+    → Goes (act a time x s) (noted h x time (number a)) w → Stepped s h x time w
+by-answer s h x time w a e p g = record {
+  fine = subst (λ (a : Answer). accepted (number a) ≡ true) (sym e) p;
+  goes = subst (λ (a : Answer). Goes (act a time x s) (noted h x time (number a)) w) (sym e) g;
+}
+
+of-book : (k : Kind) (b : Bool) → (k ≡ Market Book → b ≡ false) → ofBook k b ≡ false
+unfolding ofBook onMarket book
+of-book (Session s) b e = refl
+of-book (Market Book) b e = e refl
+of-book (Market Other) b e = refl
+
+says-again : (k : Kind) (time internal : ℕ) (m : List ℕ) (f : Feed) (t : List ℕ) (ds : List Deed) (w : Talk) → Core f t ds w → due k (w .stage) internal m ≡ true
+    → seen f k internal ≡ true → says k time internal m w ≡ w
+unfolding says
+says-again (Session s) time internal m f t ds w c e q = absurd (true≢false (sym q ∙ session-unseen f s internal))
+says-again (Market d) time internal m f t ds w c e q =
+    let l = market-told (w .stage) d internal m (f .internal) t ds (w .last) (w .deeds) (w .codes) e (c .told) in
+    rw (sym (seen-again f w d internal (c .phase) (l .0)) ∙ q)
+
+code-listed : (k : Kind) (m : List ℕ) → k ≡ Market Book → listed k m ≡ true → securityCode m ≡ 0 → ⊥
+unfolding listed listedBook listedCode
+code-listed k m e l z =
+    let q : (listedCode (securityCode m) && all listedEntry (entries m)) ≡ true = rw e at l in
+    let r = both (leb 1 (securityCode m)) (leb (securityCode m) 99999) (both (listedCode (securityCode m)) (all listedEntry (entries m)) q .0) in
+    let o : 1 ≤ securityCode m = leb-true 1 (securityCode m) (r .0) in
+    omega (arith, o, z)
+
+module _ (n : ℕ) (s : State) (h : History) (w : Talk) (k : S.Inv n s h) (i : Goes s h w) (time : ℕ) (late : w .at ≤ time) where
+  in-time : ltb time (s .feed .heard) ≡ false
+  in-time = le-ltb time (s .feed .heard) (rw (i .heard) late)
+
+  heeds : deaf (s .feed .phase) ≡ false
+  heeds = ap deaf (i .core .phase) ∙ not-deaf (w .stage)
+
+  module _ (seq internal : ℕ) (m : List ℕ) (sq : isNext (s .feed) seq ≡ true) (sz : wrongSize m ≡ false) (ls : listed (kind m) m ≡ true)
+      (du : due (kind m) (w .stage) internal m ≡ true) (gd : good (slotCount 64 n) w time (kind m) internal m ≡ true) where
+    abbrev x : News
+    x = Message seq internal m
+
+    abbrev w′ : Talk
+    w′ = saidNews x time w
+
+    allows : allowed (kind m) (s .feed .phase) internal ≡ true
+    allows = ap (λ (p : Phase). allowed (kind m) p internal) (i .core .phase) ∙ due-allowed (kind m) (w .stage) internal m du
+
+    -- said again
+    repeated : seen (s .feed) (kind m) internal ≡ true → Stepped s h x time w′
+    unfolding number act saidNews oneOf
+    repeated e =
+        by-answer s h x time w′ (Skip 1) (answer-open (s .feed) (s .tables) time seq internal m in-time heeds sz sq allows e) refl
+        (subst (λ (v : Talk). Goes (onFeed (advanced time) s) (noteHeard time h) (spoken (w .next + 1) time v))
+        (sym (says-again (kind m) time internal m (s .feed) (s .tables .books) (h .deeds) w (i .core) du e))
+        (record {
+          core = record { phase = i .core .phase; fresh = i .core .fresh; told = i .core .told };
+          next = ap (λ (j : ℕ). j + 1) (i .next);
+          heard = refl;
+        }))
+
+    module _ (un : seen (s .feed) (kind m) internal ≡ false) where
+      fitting : kind m ≡ Market Book → Fitting time m (s .tables .books) w
+      unfolding good
+      fitting e =
+          let nz = code-listed (kind m) m e ls in
+          let q =
+          market-told (w .stage) Book internal m (s .feed .internal) (s .tables .books) (h .deeds) (w .last) (w .deeds) (w .codes) (rw e at du) (i .core .told) in
+          let a : again w internal ≡ false = sym (seen-again (s .feed) w Book internal (i .core .phase) (q .0)) ∙ (rw e at un) in
+          let g : (again w internal || fits (slotCount 64 n) w time Book m) ≡ true = rw e at gd in
+          let f : fits (slotCount 64 n) w time Book m ≡ true = rw a at g in
+          book-fits time m (s .tables .books) w nz (q .2)
+          (k .booked (securityCode m) nz ∙ ap (λ (ds : List Deed). replayOn (securityCode m) ds emptyBook) (q .1))
+          (rw (k .base .ours .long) f)
+
+      core-after : Core (counted (kind m) internal (does (kind m) time m s .feed)) (does (kind m) time m s .tables .books) (noteTaken (kind m) time m h .deeds) (says (kind m) time internal m w)
+      core-after = after-kind time internal m s h w (i .core) (sym (k .base .fresh) ∙ i .core .fresh) (kind m) du (λ e. fitting e .2) un
+
+      goes-on : (g : History) → g .deeds ≡ noteTaken (kind m) time m h .deeds → Goes (taken time x s) g w′
+      unfolding taken saidNews
+      goes-on g e = record {
+        core = record {
+          phase = core-after .phase;
+          fresh = core-after .fresh;
+          told = subst (λ (ds : List Deed). Told (says (kind m) time internal m w .stage) (counted (kind m) internal (does (kind m) time m s .feed) .internal) (does (kind m) time m s .tables .books) ds (says (kind m) time internal m w .last) (says (kind m) time internal m w .deeds) (says (kind m) time internal m w .codes)) (sym e) (core-after .told);
+        };
+        next = ap (λ (j : ℕ). j + 1) (counted-next (kind m) internal (does (kind m) time m s .feed) ∙ does-next (kind m) time m s ∙ i .next);
+        heard = refl;
+      }
+
+      first-said : Stepped s h x time w′
+      unfolding number act noteNews oneOf
+      first-said = go (passed (kind m)) refl
+        where
+          ans : answerTo (s .feed) (s .tables) time x ≡ cond (passed (kind m)) (Take 2) (Take 0)
+          ans =
+              answer-taken (s .feed) (s .tables) time seq internal m in-time heeds sz sq allows un ls (sound-row m (s .tables .books) (kind m) (k .sounds))
+              (of-book (kind m) (noSlot m (s .tables .books)) (λ e. fitting e .0)) (of-book (kind m) (misfits time m (s .tables .books)) (λ e. fitting e .1))
+
+          go : (b : Bool) → passed (kind m) ≡ b → Stepped s h x time w′
+          go true e =
+              by-answer s h x time w′ (Take 2) (ans ∙ ap (λ (b : Bool). cond b (Take 2) (Take 0)) e) refl
+              (goes-on (noteHeard time h) (ap (λ (g : History). g .deeds) (sym (no-note (kind m) time m h e))))
+          go false e = by-answer s h x time w′ (Take 0) (ans ∙ ap (λ (b : Bool). cond b (Take 2) (Take 0)) e) refl (goes-on (noteHeard time (noteTaken (kind m) time m h)) refl)
+
+    message : Stepped s h x time w′
+    message = go (seen (s .feed) (kind m) internal) refl
+      where
+        go : (b : Bool) → seen (s .feed) (kind m) internal ≡ b → Stepped s h x time w′
+        go true e = repeated e
+        go false e = first-said e
+
+  on-news : (x : News) → fairNews (slotCount 64 n) w time x ≡ true → Stepped s h x time (saidNews x time w)
+  unfolding fairNews saidNews number act taken noteNews tests lineTests tableTests first onMessage arrives lacksNeed isMore isNext oneOf
+  on-news (Linked link) f = absurd (true≢false (sym f))
+  on-news More f = absurd (true≢false (sym f))
+  on-news Heartbeat f =
+      by-answer s h Heartbeat time (spoken (w .next) time w) (Take 0) (rw (in-time, heeds)) refl
+      (record { core = record { phase = i .core .phase; fresh = i .core .fresh; told = i .core .told }; next = i .next; heard = refl })
+  on-news (Message seq internal m) f =
+      let a = eqb seq (w .next) in
+      let b = leb seq lastSeqNum in
+      let c = not (wrongSize m) in
+      let d = listed (kind m) m in
+      let e = due (kind m) (w .stage) internal m in
+      let p₅ = both (a && b && c && d && e) (good (slotCount 64 n) w time (kind m) internal m) f in
+      let p₄ = both (a && b && c && d) e (p₅ .0) in
+      let p₃ = both (a && b && c) d (p₄ .0) in
+      let p₂ = both (a && b) c (p₃ .0) in
+      message seq internal m (rw (i .next) (p₂ .0)) (not-true (wrongSize m) (p₂ .1)) (p₃ .1) (p₄ .1) (p₅ .1)
+
+of-T : (b : Bool) → T b → b ≡ true
+of-T true h = refl
+of-T false h = absurd h
+
+two : (a b : Bool) → T (a && b) → T a × T b
+two true b h = (tt, h)
+two false b h = absurd h
+
+pair : (a b : Bool) → a ≡ true → T b → T (a && b)
+pair true b e t = t
+pair false b e t = absurd (true≢false (sym e))
+
+module _ (limit n : ℕ) where
+  on-event : (s : State) (h : History) (w : Talk) (e : Event) → S.Inv n s h → Goes s h w → T (fair limit (slotCount 64 n) w e)
+      → (accepted (outcome s e .given .answer) ≡ true) × Goes (after s e) (note h e (outcome s e .given .answer)) (saidNews (news e) (timeOf e) w)
+  unfolding outcome handed after note fair
+  on-event s h w e k i f =
+      let p = two (leb (w .at) (timeOf e) && leb (timeOf e) (w .at + limit)) (fairNews (slotCount 64 n) w (timeOf e) (news e)) f in
+      let q = two (leb (w .at) (timeOf e)) (leb (timeOf e) (w .at + limit)) (p .0) in
+      let r = on-news n s h w k i (timeOf e) (leb-true (w .at) (timeOf e) (of-T _ (q .0))) (news e) (of-T _ (p .1)) in
+      (r .fine, r .goes)
+
+  on-talk : (es : List Event) (s : State) (h : History) (w : Talk) → S.Inv n s h → Goes s h w → Bytes es → T (fairly limit (slotCount 64 n) w es)
+      → T (all (λ p. accepted (p .1)) (trace s es)) × Goes (run s es) (recall h (trace s es)) (talk w es)
+  unfolding run trace recall talk fairly all
+  on-talk [] s h w k i b f = (tt, i)
+  on-talk (e ∷ es) s h w k i b f =
+      let c = two (handsBytes e) (all handsBytes es) b in
+      let p = two (fair limit (slotCount 64 n) w e) (fairly limit (slotCount 64 n) (saidNews (news e) (timeOf e) w) es) f in
+      let r = on-event s h w e k i (p .0) in
+      let t =
+      on-talk es (after s e) (note h e (outcome s e .given .answer)) (saidNews (news e) (timeOf e) w)
+      (on-step OfBytes (S.Inv n) (S.keeps n) s h e (bytes-news e (c .0)) k) (r .1) (c .1) (p .1) in
+      (pair (accepted (outcome s e .given .answer)) _ (r .0) (t .0), t .1)
+
+  -- a part of it
+  part-fair : (es fs : List Event) (w : Talk) → T (fairly limit (slotCount 64 n) w (es ++ fs)) → T (fairly limit (slotCount 64 n) w es)
+  unfolding fairly
+  part-fair [] fs w f = tt
+  part-fair (e ∷ es) fs w f =
+      let p = two (fair limit (slotCount 64 n) w e) (fairly limit (slotCount 64 n) (saidNews (news e) (timeOf e) w) (es ++ fs)) f in
+      pair (fair limit (slotCount 64 n) w e) _ (of-T _ (p .0)) (part-fair es fs (saidNews (news e) (timeOf e) w) (p .1))
+
+part-bytes : (es fs : List Event) → Bytes (es ++ fs) → Bytes es
+unfolding all
+part-bytes [] fs b = tt
+part-bytes (e ∷ es) fs b =
+    let p = two (handsBytes e) (all handsBytes (es ++ fs)) b in
+    pair (handsBytes e) _ (of-T _ (p .0)) (part-bytes es fs (p .1))
+
+-- a fresh connect begins it
+begun : (s : State) (h : History) (time : ℕ) → ltb time (s .feed .heard) ≡ false
+    → Goes (after s (Connect Fresh time)) (note h (Connect Fresh time) (outcome s (Connect Fresh time) .given .answer)) (begins time)
+unfolding after outcome handed news timeOf tests lineTests tableTests first onMessage arrives lacksNeed isMore act taken number
+begun s h time e = rw e (record { core = record { phase = refl; fresh = refl; told = (refl, refl, refl) }; next = refl; heard = refl })
+
+-- the badge
+lit : (s : State) (h : History) (w : Talk) (limit asked : ℕ) → Goes s h w → s .feed .limit ≡ limit → listedLimit limit ≡ true → on (w .stage) Open ≡ true
+    → w .at ≤ asked → asked ≤ w .at + limit → badgeNo (badgeOf (s .feed) asked) ≡ 1
+unfolding badge
+lit s h w limit asked g b l o p q =
+    let e : s .feed .phase ≡ Live = g .core .phase ∙ ap phaseFor (on-same (w .stage) Open o) in
+    rw (e, b, g .heard, l, le-leb (w .at) asked p, le-leb asked (w .at + limit) q)
+
+pub goodMorning : G.GoodMorning
+unfolding run
+goodMorning limit n es time part rest be bc t f =
+    let s : State = run (start limit n) es in
+    let h : History = history (start limit n) es in
+    let l : ℕ = start limit n .feed .limit in
+    let k = S.inv-run limit n es be in
+    let b = on-run Any (B.Inv l) (B.keeps l) es (start limit n) noHistory (any es) (B.inv-start limit n) in
+    let s₁ : State = after s (Connect Fresh time) in
+    let h₁ : History = note h (Connect Fresh time) (outcome s (Connect Fresh time) .given .answer) in
+    let k₁ = on-step OfBytes (S.Inv n) (S.keeps n) s h (Connect Fresh time) (bytes-news (Connect Fresh time) (unfold handsBytes in tt)) k in
+    let g₁ = begun s h time (le-ltb time (s .feed .heard) (rw (b .heard) t)) in (
+      rw (run-append es (Connect Fresh time ∷ []) (start limit n)) (on-talk l n (part ++ rest) s₁ h₁ (begins time) k₁ g₁ bc f .0),
+      λ asked o p q.
+          rw (run-append es (Connect Fresh time ∷ part) (start limit n))
+          (lit (run s₁ part) (recall h₁ (trace s₁ part)) (talk (begins time) part) l asked
+          (on-talk l n part s₁ h₁ (begins time) k₁ g₁ (part-bytes part rest bc) (part-fair l n part rest (begins time) f) .1)
+          (bound limit n es time part) (new-limit limit) o p q),
+    )
+  where
+    bound : (limit n : ℕ) (es : List Event) (time : ℕ) (part : List Event) → run (after (run (start limit n) es) (Connect Fresh time)) part .feed .limit ≡ start limit n .feed .limit
+    bound limit n es time part =
+        let l : ℕ = start limit n .feed .limit in
+        ap (λ (x : State). x .feed .limit) (sym (run-append es (Connect Fresh time ∷ part) (start limit n)))
+        ∙ on-run Any (B.Inv l) (B.keeps l) (es ++ (Connect Fresh time ∷ part)) (start limit n) noHistory (any (es ++ (Connect Fresh time ∷ part))) (B.inv-start limit n) .bound

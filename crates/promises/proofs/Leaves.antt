@@ -1,0 +1,197 @@
+-- What a call leaves alone, proved: each is named as its statement in specs/Leaves, with a small letter. Assumes nothing.
+use Prim.Native.Nat.{ℕ}
+use native.Mathlib.Decide.{ℕ-discrete}
+use mathlib.Core.Path.{_≡_, refl, sym, ap, _∙_, subst}
+use mathlib.Core.Logic.{_⊎_, inl, inr, ⊎-elim}
+use mathlib.Core.Bool.{Bool, true, false, cond, not, _&&_, _||_, true≢false}
+use mathlib.Core.List.{List, [], _∷_}
+use mathlib.Core.Option.{Option, none, some}
+use lib.ListN.{length, getD, set}
+use lib.Seq.{getD-set-same, getD-set-other}
+use lib.Dec.{T}
+use Rattle.wire.specs.Choice.{oneOf}
+use Rattle.wire.proofs.Bools.{split}
+use Rattle.wire.proofs.Choices.{each-has}
+use Rattle.slots.specs.Slots.{slotCount, slotsOf, codeOf, put}
+use Rattle.slots.specs.declared.Slot.{Slot}
+use Rattle.slots.specs.declared.Slot.the-variants.{Held, Free, Full}
+use Rattle.slots.proofs.Blocks.{length-blocks, slots-put}
+use Rattle.slots.proofs.Lookup.{held-code, free-code}
+use Rattle.slots.proofs.Frame.{taken-fits}
+use Rattle.slots.proofs.Zeros.{length-cleared, slots-cleared, tail-cleared}
+use Rattle.book.specs.Message.{securityCode}
+use Rattle.book.specs.Walk as Walk
+use Rattle.book.specs.Words.{wordsOf}
+use Rattle.book.proofs.Writes.{book-words}
+use Rattle.books.specs.Table.{placeIn, block, bookMet, hasEntries, written, booksAfter}
+use Rattle.feed.specs.Messages.{kind, onMarket, book, statusOf, logonStatus}
+use Rattle.feed.specs.Events.{Tables, clearedTables, State, Event, News, Linked, More, Heartbeat, Message, news, timeOf, onMessage}
+use Rattle.feed.specs.Answers.{number, passed, answerTo, reply}
+use Rattle.feed.specs.declared.Answer.{Answer}
+use Rattle.feed.specs.declared.Answer.the-variants.{Keep, Lose, Spoil, Skip, Take}
+use Rattle.feed.specs.Steps.{cleared, loggedOn, tablesAfter, does, taken, act, handed, outcome}
+use Rattle.feed.specs.declared.Kind.{Kind}
+use Rattle.feed.specs.declared.Kind.the-variants.{Session, Market}
+use Rattle.feed.specs.declared.Session.the-variants.{SendKey, Logon, Logout, Refresh, Complete, Request}
+use Rattle.feed.specs.declared.Datum.the-variants.{Book, Other}
+use Rattle.feed.specs.declared.Status.{Status}
+use Rattle.feed.specs.declared.Status.the-variants.{Opens, Refills, Stays, Closes, Unlisted}
+use Rattle.promises.specs.Leaves as L
+use Rattle.promises.specs.Leaves.{clearsBy, clears, clearing, writing}
+use Rattle.promises.proofs.Refused.{proper, reply-proper}
+use Rattle.promises.proofs.Steps.{two-passed}
+use Rattle.promises.proofs.Demands.{zero-take}
+
+-- the tables after a message that is taken: as they were, cleared, or after a book message
+after-status : (st : Status) (s : State) → loggedOn st s .tables ≡ cond (clearsBy (s .feed .fresh) st) (clearedTables (s .tables)) (s .tables)
+unfolding loggedOn clearsBy
+after-status Opens s = go (s .feed .fresh)
+  where
+    go : (b : Bool) → cond b (cleared s) s .tables ≡ cond b (clearedTables (s .tables)) (s .tables)
+    go true = refl
+    go false = refl
+after-status Refills s = refl
+after-status Stays s = refl
+after-status Closes s = refl
+after-status Unlisted s = refl
+
+after-kind : (k : Kind) (time : ℕ) (m : List ℕ) (s : State) → does k time m s .tables
+    ≡ cond (onMarket book k) (tablesAfter Book time m (s .tables)) (cond (clears (s .feed .fresh) k m) (clearedTables (s .tables)) (s .tables))
+unfolding does onMarket book clears tablesAfter
+after-kind (Session SendKey) time m s = refl
+after-kind (Session Logon) time m s = after-status (statusOf (logonStatus m)) s
+after-kind (Session Logout) time m s = refl
+after-kind (Session Refresh) time m s = refl
+after-kind (Session Complete) time m s = refl
+after-kind (Session Request) time m s = refl
+after-kind (Market Book) time m s = refl
+after-kind (Market Other) time m s = refl
+
+-- what is passed over is neither
+passed-leaves : (k : Kind) (fresh : Bool) (m : List ℕ) → passed k ≡ true → (onMarket book k || clears fresh k m) ≡ false
+unfolding passed onMarket book clears
+passed-leaves (Session s) fresh m e = absurd (true≢false (sym e))
+passed-leaves (Market Book) fresh m e = absurd (true≢false (sym e))
+passed-leaves (Market Other) fresh m e = refl
+
+of-T : (b : Bool) → T b → b ≡ true
+of-T true h = refl
+of-T false h = absurd h
+
+neither : (a b : Bool) → a ≡ true → (a || b) ≡ false → ⊥
+neither true b f o = true≢false o
+neither false b f o = true≢false (sym f)
+
+neither-second : (a b : Bool) → b ≡ true → (a || b) ≡ false → ⊥
+neither-second true b f o = true≢false o
+neither-second false b f o = true≢false (sym f ∙ o)
+
+-- one property of the tables, shown for each way
+module _ (P : Tables → Type 0) (s : State) (time : ℕ) where
+  by-message : (k : Kind) (m : List ℕ) → (onMarket book k ≡ true → P (tablesAfter Book time m (s .tables)))
+      → (clears (s .feed .fresh) k m ≡ true → P (clearedTables (s .tables))) → P (s .tables) → P (does k time m s .tables)
+  by-message k m b c p = rw (after-kind k time m s) (split P (onMarket book k) _ _ b (λ e. split P (clears (s .feed .fresh) k m) _ _ c (λ f. p)))
+
+  by-answer : (x : News) (a : Answer) → answerTo (s .feed) (s .tables) time x ≡ a → T (proper a)
+      → ((seq internal : ℕ) (m : List ℕ) → x ≡ Message seq internal m → a ≡ Take 0 → onMarket book (kind m) ≡ true → P (tablesAfter Book time m (s .tables)))
+      → ((seq internal : ℕ) (m : List ℕ) → x ≡ Message seq internal m → a ≡ Take 0 → clears (s .feed .fresh) (kind m) m ≡ true → P (clearedTables (s .tables)))
+      → P (s .tables) → P (act a time x s .tables)
+  unfolding act taken proper oneOf onMessage
+  by-answer x (Keep k) e q b c p = p
+  by-answer x (Lose k) e q b c p = p
+  by-answer x (Spoil k) e q b c p = p
+  by-answer x (Skip k) e q b c p = p
+  by-answer (Linked link) (Take k) e q b c p = p
+  by-answer More (Take k) e q b c p = p
+  by-answer Heartbeat (Take k) e q b c p = p
+  by-answer (Message seq internal m) (Take k) e q b c p =
+      each-has (λ (j : ℕ). k ≡ j → answerTo (s .feed) (s .tables) time (Message seq internal m) ≡ Take j → P (does (kind m) time m s .tables)) (2 ∷ 0 ∷ []) (
+        λ z t.
+            let o = passed-leaves (kind m) (s .feed .fresh) m (of-T (passed (kind m)) (two-passed s time (Message seq internal m) t)) in
+            by-message (kind m) m (λ f. absurd (neither _ _ f o)) (λ f. absurd (neither-second (onMarket book (kind m)) _ f o)) p,
+        (λ z t. by-message (kind m) m (λ f. b seq internal m refl (ap Take z) f) (λ f. c seq internal m refl (ap Take z) f) p, tt),
+      ) k q refl e
+
+-- what an answer of 0 is known by
+zero-is : (a : Answer) → a ≡ Take 0 → number a ≡ 0
+zero-is a e = ap number e ∙ (unfold number in refl)
+
+-- the same of a call
+by-call : (P : Tables → Type 0) (s : State) (e : Event)
+    → ((seq internal : ℕ) (m : List ℕ) → news e ≡ Message seq internal m → outcome s e .given .answer ≡ 0 → onMarket book (kind m) ≡ true → P (tablesAfter Book (timeOf e) m (s .tables)))
+    → ((seq internal : ℕ) (m : List ℕ) → news e ≡ Message seq internal m → outcome s e .given .answer ≡ 0 → clears (s .feed .fresh) (kind m) m ≡ true → P (clearedTables (s .tables)))
+    → P (s .tables) → P (outcome s e .tables)
+unfolding outcome handed
+by-call P s e b c p =
+    by-answer P s (timeOf e) (news e) (reply s e) refl (reply-proper s e)
+    (λ seq internal m x z. b seq internal m x (zero-is (reply s e) z)) (λ seq internal m x z. c seq internal m x (zero-is (reply s e) z)) p
+
+pub leaves : L.Leaves
+unfolding writing onMessage
+leaves s e h =
+    by-call (λ (x : Tables). x ≡ s .tables) s e
+    (λ seq internal m x z f. absurd (neither _ _ f (subst (λ (n : News). onMessage (λ seq internal m. onMarket book (kind m) || clears (s .feed .fresh) (kind m) m) n ≡ false) x (h z))))
+    (λ seq internal m x z f. absurd (neither-second (onMarket book (kind m)) _ f (subst (λ (n : News). onMessage (λ seq internal m. onMarket book (kind m) || clears (s .feed .fresh) (kind m) m) n ≡ false) x (h z))))
+    refl
+
+-- a clearing is one
+clear-news : (x : News) (fresh : Bool) → onMessage (λ seq internal m. clears fresh (kind m) m) x ≡ true → (time : ℕ) (s : State) → s .feed .fresh ≡ fresh
+    → taken time x s .tables ≡ clearedTables (s .tables)
+unfolding onMessage taken
+clear-news (Linked link) fresh e time s f = absurd (true≢false (sym e))
+clear-news More fresh e time s f = absurd (true≢false (sym e))
+clear-news Heartbeat fresh e time s f = absurd (true≢false (sym e))
+clear-news (Message seq internal m) fresh e time s f =
+    after-kind (kind m) time m s ∙ rw (not-book (kind m) fresh m e, f, e)
+  where
+    not-book : (k : Kind) (fresh : Bool) (m : List ℕ) → clears fresh k m ≡ true → onMarket book k ≡ false
+    not-book (Session s) fresh m e = unfold onMarket in refl
+    not-book (Market d) fresh m e = absurd (true≢false (sym (unfold clears in e)))
+
+clear-call : (s : State) (e : Event) → outcome s e .given .answer ≡ 0 → clearing s e ≡ true → outcome s e .tables ≡ clearedTables (s .tables)
+unfolding outcome handed clearing act
+clear-call s e z c = rw (zero-take (reply s e) (reply-proper s e) z) (clear-news (news e) (s .feed .fresh) c (timeOf e) s refl)
+
+pub wipesSlots : L.WipesSlots
+wipesSlots s e z c =
+    let t : List ℕ = s .tables .books in
+    rw (clear-call s e z c) (slots-cleared 64 t, tail-cleared 64 t, length-cleared 64 t)
+
+-- a code's block written to its slot frees none
+put-keeps : (c k : ℕ) (t : List ℕ) → (placeIn c t ≡ Held k) ⊎ (placeIn c t ≡ Free k) → (b : Walk.Book) (j : ℕ) → (codeOf (block j t) ≡ 0 → ⊥)
+    → codeOf (block j (put 64 k (wordsOf c b) t)) ≡ codeOf (block j t)
+unfolding wordsOf
+put-keeps c k t h b j nz =
+    let fit = taken-fits 64 c k t h in
+    ap (λ (bs : List (List ℕ)). codeOf (getD bs j [])) (slots-put 64 k (wordsOf c b) t fit (book-words c b)) ∙ go (ℕ-discrete j k) h
+  where
+    go : Dec (j ≡ k) → (placeIn c t ≡ Held k) ⊎ (placeIn c t ≡ Free k) → codeOf (getD (set (slotsOf 64 t) k (wordsOf c b)) j []) ≡ codeOf (block j t)
+    go (no e) h = ap codeOf (getD-set-other (slotsOf 64 t) k j (wordsOf c b) [] e)
+    go (yes e) (inl f) =
+        rw e
+        (ap codeOf (getD-set-same (slotsOf 64 t) k (wordsOf c b) [] (rw (length-blocks 64 (slotCount 64 (length t)) t) (taken-fits 64 c k t (inl f))))
+        ∙ sym (held-code c (slotsOf 64 t) k f))
+    go (yes e) (inr f) = absurd (nz (rw e (free-code c (slotsOf 64 t) k f)))
+
+written-keeps : (c : ℕ) (t : List ℕ) (p : Slot) → placeIn c t ≡ p → (r : Option Walk.Book) (j : ℕ) → (codeOf (block j t) ≡ 0 → ⊥)
+    → codeOf (block j (written p c r t)) ≡ codeOf (block j t)
+unfolding written
+written-keeps c t (Held k) e none j nz = refl
+written-keeps c t (Held k) e (some b) j nz = put-keeps c k t (inl e) b j nz
+written-keeps c t (Free k) e none j nz = refl
+written-keeps c t (Free k) e (some b) j nz = put-keeps c k t (inr e) b j nz
+written-keeps c t Full e r j nz = refl
+
+books-keep : (time : ℕ) (m t : List ℕ) (j : ℕ) → (codeOf (block j t) ≡ 0 → ⊥) → codeOf (block j (booksAfter time m t)) ≡ codeOf (block j t)
+unfolding booksAfter
+books-keep time m t j nz =
+    split (λ (u : List ℕ). codeOf (block j u) ≡ codeOf (block j t)) (hasEntries m) _ t
+    (λ e. written-keeps (securityCode m) t (placeIn (securityCode m) t) refl (bookMet time m t) j nz) (λ e. refl)
+
+pub keepsSlots : L.KeepsSlots
+unfolding clearing onMessage tablesAfter
+keepsSlots s e h j nz =
+    by-call (λ (x : Tables). codeOf (block j (x .books)) ≡ codeOf (block j (s .tables .books))) s e
+    (λ seq internal m x z f. books-keep (timeOf e) m (s .tables .books) j nz)
+    (λ seq internal m x z f. absurd (true≢false (sym f ∙ subst (λ (n : News). onMessage (λ seq internal m. clears (s .feed .fresh) (kind m) m) n ≡ false) x (h z))))
+    refl

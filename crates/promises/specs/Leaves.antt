@@ -1,0 +1,61 @@
+-- What a call leaves alone, for any feed and any table. Each is proved in proofs/Leaves, under its name with a small letter. Assumes nothing.
+use Prim.Native.Nat.{ℕ, _*_}
+use mathlib.Core.Path.{_≡_}
+use mathlib.Core.Bool.{Bool, true, false, _||_}
+use mathlib.Core.List.{List}
+use lib.ListN.{length, drop, replicate}
+use Rattle.slots.specs.Slots.{slotCount, slotsOf, codeOf}
+use Rattle.book.specs.Words.{bookWidth}
+use Rattle.books.specs.Table.{block}
+use Rattle.feed.specs.Messages.{kind, onMarket, book, statusOf, logonStatus}
+use Rattle.feed.specs.Events.{State, Event, news, onMessage}
+use Rattle.feed.specs.Steps.{outcome}
+use Rattle.feed.specs.declared.Kind.{Kind}
+use Rattle.feed.specs.declared.Kind.the-variants.{Session, Market}
+use Rattle.feed.specs.declared.Session.the-variants.{SendKey, Logon, Logout, Refresh, Complete, Request}
+use Rattle.feed.specs.declared.Status.{Status}
+use Rattle.feed.specs.declared.Status.the-variants.{Opens, Refills, Stays, Closes, Unlisted}
+
+-- a logon that clears: 101, and 0 or 2 after a fresh connect
+unfoldable pub clearsBy : Bool → Status → Bool
+clearsBy fresh Opens = fresh
+clearsBy fresh Refills = true
+clearsBy fresh Stays = false
+clearsBy fresh Closes = false
+clearsBy fresh Unlisted = false
+
+unfoldable pub clears : Bool → Kind → List ℕ → Bool
+clears fresh (Session SendKey) m = false
+clears fresh (Session Logon) m = clearsBy fresh (statusOf (logonStatus m))
+clears fresh (Session Logout) m = false
+clears fresh (Session Refresh) m = false
+clears fresh (Session Complete) m = false
+clears fresh (Session Request) m = false
+clears fresh (Market d) m = false
+
+-- an event that brings such a logon; or that or a book message
+unfoldable pub clearing : State → Event → Bool
+clearing s e = onMessage (λ seq internal m. clears (s .feed .fresh) (kind m) m) (news e)
+
+unfoldable pub writing : State → Event → Bool
+writing s e = onMessage (λ seq internal m. onMarket book (kind m) || clears (s .feed .fresh) (kind m) m) (news e)
+
+-- Seen, Passed, heartbeats, session messages that do not clear, connects, and whatever is refused, leave every word: only what is answered 0 and is
+-- a book message or clears can change one
+abbrev pub Leaves : Type 0
+Leaves = (s : State) (e : Event) → (outcome s e .given .answer ≡ 0 → writing s e ≡ false) → outcome s e .tables ≡ s .tables
+
+-- a clearing makes every slot zeros, and leaves the words behind the slots
+abbrev pub WipesSlots : Type 0
+WipesSlots =
+    (s : State) (e : Event) → outcome s e .given .answer ≡ 0 → clearing s e ≡ true
+    → (slotsOf bookWidth (outcome s e .tables .books) ≡ replicate (slotCount bookWidth (length (s .tables .books))) (replicate bookWidth 0))
+    × (drop (bookWidth * slotCount bookWidth (length (s .tables .books))) (outcome s e .tables .books)
+    ≡ drop (bookWidth * slotCount bookWidth (length (s .tables .books))) (s .tables .books))
+    × (length (outcome s e .tables .books) ≡ length (s .tables .books))
+
+-- nothing but a clearing frees a slot: a slot that has a code keeps it
+abbrev pub KeepsSlots : Type 0
+KeepsSlots =
+    (s : State) (e : Event) → (outcome s e .given .answer ≡ 0 → clearing s e ≡ false)
+    → (j : ℕ) → (codeOf (block j (s .tables .books)) ≡ 0 → ⊥) → codeOf (block j (outcome s e .tables .books)) ≡ codeOf (block j (s .tables .books))

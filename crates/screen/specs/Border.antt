@@ -1,0 +1,98 @@
+-- Runs of the C calls, in plain numbers: each is a run as the demands have it. Each statement is proved in proofs/Border, under its name with a
+-- small letter. Assumes nothing.
+use Prim.Native.Nat.{ℕ}
+use mathlib.Core.Path.{_≡_}
+use mathlib.Core.Bool.{true}
+use mathlib.Core.List.{List, [], _∷_}
+use lib.ListN.{length, replicate}
+use lib.Dec.{T, eqb}
+use Rattle.wire.specs.Choice.{oneOf}
+use Rattle.feed.specs.Feeds.{newGiven, plainBadge}
+use Rattle.feed.specs.Events.{State, Event, Connect, Arrive, Cut}
+use Rattle.feed.specs.Steps.{lent, stateOf, Outcome, outcome}
+use Rattle.feed.specs.declared.Feed.{Feed}
+use Rattle.promises.specs.Runs.{zeroed, start, run, trace, History, noHistory, recall, green, replay}
+use Rattle.promises.specs.Refusals.{answersTo}
+use Rattle.promises.specs.Ledger.{Ledger, noLedger, keep, upTo}
+use Rattle.screen.specs.Plain.{linkOf, feedOf, plainFeed, plainGiven, PlainOut, plainOut, plainOutcome}
+use Rattle.screen.specs.declared.MmdhFeed.{MmdhFeed}
+
+-- the calls that change a feed, by what is handed to them
+pub data Call : Type 0 where
+  Connects : (resuming time : ℕ) → Call
+  Arrives : (bytes : List ℕ) (time : ℕ) → Call
+  ArrivesCut : (seq internal : ℕ) (message : List ℕ) (time : ℕ) → Call
+
+abbrev pub eventOf : Call → Event
+eventOf (Connects resuming time) = Connect (linkOf resuming) time
+eventOf (Arrives bytes time) = Arrive bytes time
+eventOf (ArrivesCut seq internal m time) = Cut seq internal m time
+
+-- what a call hands back for any seven numbers, with the words after it: mmdh_connect, mmdh_arrive, mmdh_arrive_cut, by their contracts
+abbrev pub handsBack : MmdhFeed → List ℕ → Call → PlainOut
+handsBack f t c = plainOutcome (outcome (stateOf (feedOf f) (lent t)) (eventOf c))
+
+-- what a screen keeps: the numbers last handed back, and its words
+pub record Held : Type 0 where
+  pub feed : MmdhFeed
+  pub books : List ℕ
+
+-- mmdh_new, and n zero words
+abbrev pub plainStart : ℕ → ℕ → Held
+plainStart limit n = record { feed = plainGiven (newGiven limit) .feed; books = replicate n 0 }
+
+unfoldable pub plainAfter : Held → Call → Held
+plainAfter x c = record { feed = handsBack (x .feed) (x .books) c .given .feed; books = handsBack (x .feed) (x .books) c .books }
+
+unfoldable pub plainRun : Held → List Call → Held
+plainRun x [] = x
+plainRun x (c ∷ cs) = plainRun (plainAfter x c) cs
+
+-- the calls with the answers that they handed back
+unfoldable pub plainTrace : Held → List Call → List (Event × ℕ)
+plainTrace x [] = []
+plainTrace x (c ∷ cs) = (eventOf c, handsBack (x .feed) (x .books) c .given .answer) ∷ plainTrace (plainAfter x c) cs
+
+unfoldable pub eventsOf : List Call → List Event
+eventsOf [] = []
+eventsOf (c ∷ cs) = eventOf c ∷ eventsOf cs
+
+-- a feed comes back from its numbers
+abbrev pub ComesBack : Type 0
+ComesBack = (f : Feed) → feedOf (plainFeed f) ≡ f
+
+-- a run of C calls from mmdh_new and zeroed words is a run: number by number, word by word and answer by answer
+abbrev pub IsRun : Type 0
+IsRun =
+    (limit n : ℕ) (cs : List Call)
+    → (plainRun (plainStart limit n) cs .feed ≡ plainFeed (run (start limit n) (eventsOf cs) .feed))
+    × (plainRun (plainStart limit n) cs .books ≡ run (start limit n) (eventsOf cs) .tables .books)
+    × (plainTrace (plainStart limit n) cs ≡ trace (start limit n) (eventsOf cs))
+
+-- DEMAND 1 of the C calls: any seven numbers, any words, any bytes, any clock reading gets one of the numbered answers
+abbrev pub PlainListed : Type 0
+PlainListed = (f : MmdhFeed) (t : List ℕ) (c : Call) → T (oneOf (handsBack f t c .given .answer) (answersTo (eventOf c)))
+
+-- what the calls and the answers that they handed back tell
+abbrev pub told : ℕ → ℕ → List Call → History
+told limit n cs = recall noHistory (plainTrace (plainStart limit n) cs)
+
+abbrev pub counted : ℕ → ℕ → List Call → Ledger
+counted limit n cs = keep noHistory noLedger (plainTrace (plainStart limit n) cs)
+
+-- DEMAND 2 of them: while mmdh_badge says green, every counted message that came since the connect has been met, in its order, none left out
+abbrev pub PlainNoneLeftOut : Type 0
+PlainNoneLeftOut =
+    (limit n : ℕ) (cs : List Call) (time : ℕ)
+    → eqb (plainBadge (plainRun (plainStart limit n) cs .feed .phase) (plainRun (plainStart limit n) cs .feed .heard) (plainRun (plainStart limit n) cs .feed .limit) time) 1 ≡ true
+    → (counted limit n cs .came ≡ counted limit n cs .met) × (counted limit n cs .met ≡ upTo (length (counted limit n cs .met)))
+
+-- DEMAND 3 of them: the words are the replay, and mmdh_badge is green exactly when what the calls and their answers tell says so
+abbrev pub PlainReplayed : Type 0
+PlainReplayed = (limit n : ℕ) (cs : List Call) → plainRun (plainStart limit n) cs .books ≡ replay (told limit n cs .deeds) (zeroed n) .books
+
+abbrev pub PlainGreen : Type 0
+PlainGreen =
+    (limit n : ℕ) (cs : List Call) (time : ℕ)
+    → eqb (plainBadge (plainRun (plainStart limit n) cs .feed .phase) (plainRun (plainStart limit n) cs .feed .heard) (plainRun (plainStart limit n) cs .feed .limit) time) 1
+    ≡ green (told limit n cs) (plainStart limit n .feed .limit) time
