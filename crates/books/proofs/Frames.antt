@@ -8,15 +8,15 @@ use mathlib.Core.Logic.{inl, inr, ⊎-elim}
 use native.Mathlib.Decide.{decLt}
 use mathlib.Core.Option.{Option, none, some}
 use lib.Dec.{T, ltb}
-use Rattle.wire.specs.Choice.{all}
+use Rattle.ground.specs.Choice.{all}
 use Rattle.wire.specs.Number.{bytesOnly}
-use Rattle.book.specs.Loading.{SoundBook}
-use Rattle.book.proofs.Orders.{all-set}
-use Rattle.book.proofs.Keeps.{empty-sound, book-sound}
+use Rattle.ladder.specs.Loading.{SoundBook}
+use Rattle.ladder.proofs.Orders.{all-set}
+use Rattle.ladder.proofs.Keeps.{empty-sound, book-sound}
 use lib.ListN.{length, drop, replicate}
 use lib.Seq.{getD-set-other}
 use borrow.Author.Tests.{le-ltb, ltb-false, not-false}
-use Rattle.wire.proofs.Bools.{split}
+use Rattle.ground.proofs.Bools.{split}
 use Rattle.slots.specs.Slots.{slotCount, slotsOf, lowest, place, put, blocks, cleared}
 use Rattle.slots.specs.declared.Slot.{Slot}
 use Rattle.slots.specs.declared.Slot.the-variants.{Held, Free, Full}
@@ -24,13 +24,13 @@ use Rattle.slots.proofs.Blocks.{slots-fit, length-blocks, length-put, tail-put,
 use Rattle.slots.proofs.Lookup.{place-held}
 use Rattle.slots.proofs.Zeros.{slots-cleared, lowest-cleared, length-cleared}
 use Rattle.slots.proofs.Frame.{Taken, taken-fits, write-own, write-other, write-lowest}
-use Rattle.book.specs.Message.{securityCode, noEntries, entriesFrom, entries}
-use Rattle.book.specs.Walk.{Book, emptyBook, walk}
-use Rattle.book.specs.Words.{bookOf, wordsOf, sound, soundSide, rowsFrom, bestFirst, bounded, zeroRow}
-use Rattle.book.proofs.Walks.{Few, walk-few}
-use Rattle.book.proofs.Writes.{book-words}
-use Rattle.book.proofs.Rounds.{code-back, book-back, written-sound}
-use Rattle.book.proofs.Tells.{all-at, book-of-sound}
+use Rattle.ladder.specs.Message.{securityCode, noEntries, entriesFrom, entries}
+use Rattle.ladder.specs.Walk.{Book, emptyBook, walk}
+use Rattle.ladder.specs.Words.{bookOf, wordsOf, sound, soundSide, rowsFrom, bestFirst, bounded, zeroRow}
+use Rattle.ladder.proofs.Walks.{Few, walk-few}
+use Rattle.ladder.proofs.Writes.{book-words}
+use Rattle.ladder.proofs.Rounds.{code-back, book-back, written-sound}
+use Rattle.ladder.proofs.Tells.{all-at, book-of-sound}
 use Rattle.books.specs.Table.{placeIn, block, unsoundAt, noneFree, bookAt, bookMet, misfit, hasEntries, unsound, noSlot, misfits, written, booksAfter}
 
 -- the table with a book written to the slot that the code has, or takes

@@ -5,7 +5,7 @@ use mathlib.Core.Path.{_≡_, refl, sym, ap, _∙_, subst}
 use mathlib.Core.Bool.{Bool, true, false, cond, _&&_}
 use mathlib.Core.List.{List, [], _∷_}
 use native.Mathlib.Decide.{decLt}
-use Rattle.wire.proofs.Bools.{both}
+use Rattle.ground.proofs.Bools.{both}
 use types.Run
 use denote.Enum.Declared
 use lib.Dec.{leb, ltb, eqb}
@@ -13,19 +13,19 @@ use lib.IntN.{ℤ, subℕ}
 use lib.ListN.{length, take, drop, getD}
 use lib.Seq.{length-take-le, getD-take}
 use borrow.Author.Tests.{lt-leb, le-leb, lt-ltb, le-ltb, eq-eqb, ne-eqb, leb-true}
-use Rattle.wire.specs.Choice.{first}
+use Rattle.ground.specs.Choice.{first}
 use Rattle.wire.specs.Number.{bias, word32}
 use Rattle.slots.specs.Slots.{slotCount, slotsOf, place}
 use Rattle.slots.specs.declared.Slot.{Slot}
 use Rattle.slots.specs.declared.Slot.the-variants.{Held, Free, Full}
 use Rattle.slots.proofs.Slot as slot′
-use Rattle.book.specs.Message.{listedSide, listedRank, listedCode}
-use Rattle.book.specs.Sides.{noRow}
-use Rattle.book.specs.Words.{bidCount, offerCount, rowOf, rowsFrom, sound}
-use Rattle.book.specs.declared.Row.{Row}
-use Rattle.book.proofs.Walks.{side-known, side-unknown}
-use Rattle.book.proofs.Loads.{rows-ten, row-is}
-use Rattle.book.proofs.Tells.{few-bids, few-offers, bid-bounds, offer-bounds}
+use Rattle.ladder.specs.Message.{listedSide, listedRank, listedCode}
+use Rattle.ladder.specs.Sides.{noRow}
+use Rattle.ladder.specs.Words.{bidCount, offerCount, rowOf, rowsFrom, sound}
+use Rattle.ladder.specs.declared.Row.{Row}
+use Rattle.ladder.proofs.Walks.{side-known, side-unknown}
+use Rattle.ladder.proofs.Loads.{rows-ten, row-is}
+use Rattle.ladder.proofs.Tells.{few-bids, few-offers, bid-bounds, offer-bounds}
 use Rattle.books.specs.Table.{placeIn, block, unsoundAt, bookAt}
 use Rattle.books.specs.Reading.{noBook, readAnswer, rowRefused, rowShown, readRow, rowOfSide, rowOfBook}
 use Rattle.books.specs.declared.RowRead.{RowRead}

@@ -12,22 +12,22 @@ use lib.Seq.{take-all}
 use borrow.Author.Needs.{needs}
 use borrow.Author.Tests.{lt-leb, le-leb, lt-ltb}
 use borrow.Rule.Slice.PartMut.{putMid}
-use Rattle.wire.specs.Choice.{first, all}
+use Rattle.ground.specs.Choice.{first, all}
 use Rattle.wire.specs.Number.{field}
 use Rattle.slots.specs.Slots.{slotCount, slotsOf, place, put}
 use Rattle.slots.specs.declared.Slot.{Slot}
 use Rattle.slots.specs.declared.Slot.the-variants.{Held, Free, Full}
 use Rattle.slots.proofs.Blocks.{block-at}
 use Rattle.slots.proofs.Frame.{taken-fits}
-use Rattle.book.specs.Message.{securityCode, noEntries, entriesFrom, entries, listedCode, listedEntry, listedBook}
-use Rattle.book.specs.Walk.{Book, emptyBook, walk}
-use Rattle.book.specs.Words.{bookOf, wordsOf, sound}
-use Rattle.book.specs.Arrays.{Sides, bookIn}
-use Rattle.book.specs.Loading.{Met, met, settled, rowsIn}
-use Rattle.book.specs.declared.Entry.{Entry}
-use Rattle.book.specs.declared.Row.{Row}
-use Rattle.book.proofs.Walks.{empty-sides}
-use Rattle.book.proofs.Tells.{sides-padded}
+use Rattle.ladder.specs.Message.{securityCode, noEntries, entriesFrom, entries, listedCode, listedEntry, listedBook}
+use Rattle.ladder.specs.Walk.{Book, emptyBook, walk}
+use Rattle.ladder.specs.Words.{bookOf, wordsOf, sound}
+use Rattle.ladder.specs.Arrays.{Sides, bookIn}
+use Rattle.ladder.specs.Loading.{Met, met, settled, rowsIn}
+use Rattle.ladder.specs.declared.Entry.{Entry}
+use Rattle.ladder.specs.declared.Row.{Row}
+use Rattle.ladder.proofs.Walks.{empty-sides}
+use Rattle.ladder.proofs.Tells.{sides-padded}
 use Rattle.books.specs.Table.{placeIn, block, unsoundAt, noneFree, bookAt, misfit, hasEntries, unsound, noSlot, misfits, bookAnswer, written, booksAfter}
 use Rattle.books.specs.Turns.{ready, startRows, startCounts, slotMet, within, placeMet, bookTurn}
 

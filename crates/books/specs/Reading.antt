@@ -5,15 +5,15 @@ use mathlib.Core.List.{List, [], _∷_}
 use lib.ListN.{length, drop}
 use lib.IntN.{pos, subℕ}
 use lib.Dec.{ltb, eqb}
-use Rattle.wire.specs.Choice.{first}
+use Rattle.ground.specs.Choice.{first}
 use Rattle.wire.specs.Number.{bias}
 use Rattle.slots.specs.declared.Slot.{Slot}
 use Rattle.slots.specs.declared.Slot.the-variants.{Held, Free, Full}
-use Rattle.book.specs.Message.{bidSide, listedSide, listedRank, listedCode}
-use Rattle.book.specs.Sides.{rowAt}
-use Rattle.book.specs.Walk.{Book}
-use Rattle.book.specs.Words.{bidCount, offerCount, bidsAt, offersAt, rowWidth, rowOf, sound}
-use Rattle.book.specs.declared.Row.{Row}
+use Rattle.ladder.specs.Message.{bidSide, listedSide, listedRank, listedCode}
+use Rattle.ladder.specs.Sides.{rowAt}
+use Rattle.ladder.specs.Walk.{Book}
+use Rattle.ladder.specs.Words.{bidCount, offerCount, bidsAt, offersAt, rowWidth, rowOf, sound}
+use Rattle.ladder.specs.declared.Row.{Row}
 use Rattle.books.specs.Table.{placeIn, unsoundAt, bookAt}
 use Rattle.books.specs.declared.RowRead.{RowRead}
 

@@ -5,13 +5,13 @@ use mathlib.Core.List.{List, [], _∷_}
 use mathlib.Core.Option.{Option, none, some}
 use lib.ListN.{getD}
 use lib.Dec.{ltb}
-use Rattle.wire.specs.Choice.{first}
+use Rattle.ground.specs.Choice.{first}
 use Rattle.slots.specs.Slots.{slotsOf, place, put}
 use Rattle.slots.specs.declared.Slot.{Slot}
 use Rattle.slots.specs.declared.Slot.the-variants.{Held, Free, Full}
-use Rattle.book.specs.Message.{securityCode, noEntries}
-use Rattle.book.specs.Walk.{Book, emptyBook, bookAfter}
-use Rattle.book.specs.Words.{bookWidth, bookOf, wordsOf, sound}
+use Rattle.ladder.specs.Message.{securityCode, noEntries}
+use Rattle.ladder.specs.Walk.{Book, emptyBook, bookAfter}
+use Rattle.ladder.specs.Words.{bookWidth, bookOf, wordsOf, sound}
 
 -- where a code's book is, or would be
 abbrev pub placeIn : ℕ → List ℕ → Slot

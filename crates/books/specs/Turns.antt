@@ -6,12 +6,12 @@ use lib.Dec.{eqb}
 use Rattle.slots.specs.Slots.{put}
 use Rattle.slots.specs.declared.Slot.{Slot}
 use Rattle.slots.specs.declared.Slot.the-variants.{Held, Free, Full}
-use Rattle.book.specs.Walk.{emptyBook, walk}
-use Rattle.book.specs.Words.{bookWidth, bookOf, sound}
-use Rattle.book.specs.Arrays.{emptyRows, emptyCounts}
-use Rattle.book.specs.Loading.{Met, met, settled, rowsIn, countsIn}
-use Rattle.book.specs.declared.Entry.{Entry}
-use Rattle.book.specs.declared.Row.{Row}
+use Rattle.ladder.specs.Walk.{emptyBook, walk}
+use Rattle.ladder.specs.Words.{bookWidth, bookOf, sound}
+use Rattle.ladder.specs.Arrays.{emptyRows, emptyCounts}
+use Rattle.ladder.specs.Loading.{Met, met, settled, rowsIn, countsIn}
+use Rattle.ladder.specs.declared.Entry.{Entry}
+use Rattle.ladder.specs.declared.Row.{Row}
 use Rattle.books.specs.Table.{block, bookAnswer, booksAfter}
 
 -- a code's own slot has to be sound; a free slot's book starts empty

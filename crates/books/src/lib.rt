@@ -4,14 +4,14 @@ ghost use mathlib.Core.Bool.{_&&_};
 ghost use Prim.Native.Nat.{_+_, _-_, _*_, _<_, _≤_};
 ghost use lib.ListN.{length, drop};
 ghost use Rattle.slots.specs.Slots.{slotCount};
-ghost use Rattle.book.specs.Message.{noEntries, entriesAt, entrySize, entriesFrom, listedCode, listedBook, listedSide, listedRank};
-ghost use Rattle.book.specs.Words.{rowOf};
+ghost use Rattle.ladder.specs.Message.{noEntries, entriesAt, entrySize, entriesFrom, listedCode, listedBook, listedSide, listedRank};
+ghost use Rattle.ladder.specs.Words.{rowOf};
 ghost use Rattle.wire.specs.Number.{word32};
-ghost use Rattle.book.specs.Loading.{met};
+ghost use Rattle.ladder.specs.Loading.{met};
 ghost use Rattle.books.specs.Table.{placeIn, block as blockOf};
 ghost use Rattle.books.specs.Turns.{ready, startRows, startCounts, slotMet, within, placeMet, bookTurn};
 ghost use Rattle.books.specs.Reading.{rowRefused, rowOfSide, rowOfBook, readRow};
-use book::Row;
+use ladder::Row;
 use slots::Slot;
 
 // What reading a row gives: the answer, and with answer 0 the row, its price signed as sent.
@@ -28,7 +28,7 @@ fn is_ready(words: &[u64], own: bool) -> bool
     ensures { λ r. ⌜ r ≡ ready own (now (words .entry)) ⌝ }
 {
     if own {
-        return book::is_sound(words);
+        return ladder::is_sound(words);
     }
     true
 }
@@ -39,9 +39,9 @@ fn rows_in(words: &[u64], own: bool) -> [[Row; 10]; 2]
     ensures { λ r. ⌜ r ≡ startRows own (now (words .entry)) ⌝ }
 {
     if own {
-        return book::load_rows(words);
+        return ladder::load_rows(words);
     }
-    book::no_rows()
+    ladder::no_rows()
 }
 
 // How many rows of each side are used.
@@ -63,7 +63,7 @@ fn in_words(words: &mut [u64], own: bool, code: u64, part: &[u8], n: usize, time
     if is_ready(words, own) {
         let rows = rows_in(words, own);
         let counts = counts_in(words, own);
-        return book::walk(words, code, rows, counts, part, n, time);
+        return ladder::walk(words, code, rows, counts, part, n, time);
     }
     18
 }
@@ -117,7 +117,7 @@ pub fn is_listed(m: &[u8]) -> bool
     if is_code(wire::u32_in(m, 4)) {
         let n = wire::u8_in(m, 11) as usize;
         let part = &m[12..];
-        return book::all_listed(part, n);
+        return ladder::all_listed(part, n);
     }
     false
 }
@@ -173,7 +173,7 @@ fn row_of_side(words: &[u64], base: usize, n: u64, rank: u64) -> RowRead
         return no_row(4);
     }
     let place = (rank - 1) as usize;
-    let row = book::row_at(words, base + 3 * place);
+    let row = ladder::row_at(words, base + 3 * place);
     let price = wire::price_of(row.price);
     RowRead {
         answer: 0,
@@ -188,7 +188,7 @@ fn row_of_book(words: &[u64], side: u64, rank: u64) -> RowRead
     requires { ⌜ (length (now words) ≡ 64) × (1 ≤ rank) × (rank ≤ 10) ⌝ }
     ensures { λ r. ⌜ r ≡ rowOfBook side rank (now (words .entry)) ⌝ }
 {
-    if book::is_sound(words) {
+    if ladder::is_sound(words) {
         if side == 0 {
             return row_of_side(words, 4, words[1], rank);
         }

@@ -6,11 +6,11 @@ use mathlib.Core.List.{List, [], _∷_, _++_}
 use native.Mathlib.Omega.{arith}
 use lib.ListN.{length, take, drop}
 use lib.Dec.{T, ltb, eqb}
-use Rattle.wire.specs.Choice.{first, all}
+use Rattle.ground.specs.Choice.{first, all}
 use Rattle.wire.specs.Units.{unitOf}
 use Rattle.wire.specs.declared.Unit.{Unit}
 use Rattle.wire.specs.declared.Unit.the-variants as unit
-use Rattle.wire.proofs.Choices.{first-may}
+use Rattle.ground.proofs.Choices.{first-may}
 use Rattle.wire.proofs.Fronts.{unit-fits, unit-stays}
 use Rattle.feed.specs.Feeds.{deaf}
 use Rattle.feed.specs.Events.{Tables, State, Arrive, timeOf, News, Linked, More, Heartbeat, Message, cutFrom, news, onMessage, newsSize, offered}

@@ -5,11 +5,11 @@ use mathlib.Core.Bool.{Bool, true, false, cond, not}
 use mathlib.Core.List.{List}
 use lib.ListN.{length}
 use lib.Dec.{T, eqb}
-use Rattle.wire.specs.Choice.{pick, first, all}
+use Rattle.ground.specs.Choice.{pick, first, all}
 use Rattle.wire.specs.Units.{unitOf}
 use Rattle.wire.specs.declared.Unit.{Unit}
 use Rattle.wire.specs.declared.Unit.the-variants as unit
-use Rattle.wire.proofs.Choices.{first-fails, first-settles, first-append, first-none}
+use Rattle.ground.proofs.Choices.{first-fails, first-settles, first-append, first-none}
 use Rattle.wire.proofs.Fronts.{unit-fits, message-length, heartbeat-fits}
 use Rattle.feed.specs.Feeds.{phaseNo, phaseOf, badge, badgeNo, badgeOf, plainBadge}
 use Rattle.feed.specs.Events.{Tables, State, Event, Arrive, timeOf, cutFrom, news, newsSize, offered}

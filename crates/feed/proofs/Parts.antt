@@ -9,10 +9,10 @@ use lib.Dec.{leb, ltb, eqb}
 use lib.ListN.{length, getD}
 use borrow.Author.Needs.{needs}
 use borrow.Author.Tests.{lt-ltb, le-ltb, le-leb, lt-leb, eq-eqb, ne-eqb, eqb-true}
-use Rattle.wire.proofs.Bools.{both}
-use Rattle.wire.specs.Choice.{oneOf, pick, first}
+use Rattle.ground.proofs.Bools.{both}
+use Rattle.ground.specs.Choice.{oneOf, pick, first}
 use Rattle.wire.specs.Number.{field}
-use Rattle.book.specs.Message.{bookSized, listedBook}
+use Rattle.ladder.specs.Message.{bookSized, listedBook}
 use Rattle.feed.specs.Messages.{datumOf, kindOf, market, onMarket, sized, wrongSize, statusOf, listedStatus, listed}
 use Rattle.feed.specs.Feeds.{phaseNo, is, deaf, inPhase, internalIs, wholeIs, listedLimit, newFeed, newGiven, colour, badgeNo, badge, phaseOf, plainBadge}
 use Rattle.feed.specs.Events.{Tables, Linked}

@@ -11,19 +11,19 @@ use mir.Val.{Fits}
 use types.Run
 use denote.Enum.Declared
 use borrow.Author.Tests.{lt-ltb, le-ltb, le-leb, lt-leb, leb-true, eq-eqb, ne-eqb, eqb-true, not-false}
-use Rattle.wire.specs.Choice.{first}
+use Rattle.ground.specs.Choice.{first}
 use Rattle.wire.specs.Number.{field}
 use Rattle.wire.specs.Units.{unitOf, messageIn}
 use Rattle.wire.specs.declared.Unit.{Unit}
 use Rattle.wire.specs.declared.Unit.the-variants as unit
-use Rattle.wire.proofs.Bools.{both, cond-same}
-use Rattle.wire.proofs.Choices.{noneUpto, first-skips}
+use Rattle.ground.proofs.Bools.{both, cond-same}
+use Rattle.ground.proofs.Choices.{noneUpto, first-skips}
 use Rattle.wire.proofs.Unit as the-unit
 use Rattle.wire.proofs.Fronts.{unit-fits, message-length}
 use Rattle.slots.specs.Slots as slots
 use Rattle.books.specs.Table.{unsound, noSlot, misfits, bookAnswer, booksAfter}
 use Rattle.books.specs.Turns.{bookTurn}
-use Rattle.book.specs.Loading.{Met, met}
+use Rattle.ladder.specs.Loading.{Met, met}
 use Rattle.feed.specs.Messages.{kindOf, onMarket, market, book, wrongSize, statusOf, listed}
 use Rattle.feed.specs.Feeds.{deaf, inPhase, nextIs, internalIs, heardAt, wholeIs, freshIs}
 use Rattle.feed.specs.Events.{Tables, Event, Connect, Arrive, Cut, timeOf, News, Linked, Message, cutFrom, news, onMessage, newsSize, offered}

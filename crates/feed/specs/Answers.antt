@@ -3,7 +3,7 @@ use Prim.Native.Nat.{ℕ}
 use mathlib.Core.Bool.{Bool, true, false, cond, not, _&&_, _||_}
 use mathlib.Core.List.{List, [], _∷_, _++_}
 use lib.Dec.{ltb, leb, eqb}
-use Rattle.wire.specs.Choice.{first}
+use Rattle.ground.specs.Choice.{first}
 use Rattle.books.specs.Table.{unsound, noSlot, misfits}
 use Rattle.feed.specs.Messages.{kind, onMarket, market, book, wrongSize, listed}
 use Rattle.feed.specs.Feeds.{is, deaf}

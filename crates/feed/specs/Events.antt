@@ -7,7 +7,7 @@ use Rattle.wire.specs.Units.{headerSize, unitOf, messageIn}
 use Rattle.wire.specs.declared.Unit.{Unit}
 use Rattle.wire.specs.declared.Unit.the-variants as unit
 use Rattle.slots.specs.Slots.{cleared}
-use Rattle.book.specs.Words.{bookWidth}
+use Rattle.ladder.specs.Words.{bookWidth}
 use Rattle.feed.specs.declared.Feed.{Feed}
 use Rattle.feed.specs.declared.Link.{Link}
 

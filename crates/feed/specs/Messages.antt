@@ -4,10 +4,10 @@ use mathlib.Core.Bool.{Bool, true, false, not, _||_}
 use mathlib.Core.List.{List, [], _∷_}
 use lib.ListN.{length}
 use lib.Dec.{ltb, eqb}
-use Rattle.wire.specs.Choice.{oneOf, pick}
+use Rattle.ground.specs.Choice.{oneOf, pick}
 use Rattle.wire.specs.Number.{field}
 use Rattle.wire.specs.Units.{msgSize, msgType}
-use Rattle.book.specs.Message.{bookSized, listedBook}
+use Rattle.ladder.specs.Message.{bookSized, listedBook}
 use Rattle.feed.specs.declared.Kind.{Kind}
 use Rattle.feed.specs.declared.Kind.the-variants.{Session, Market}
 use Rattle.feed.specs.declared.Session.the-variants.{SendKey, Logon, Logout, Refresh, Complete, Request}

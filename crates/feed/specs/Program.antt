@@ -7,9 +7,9 @@ use lib.IntN.{ℤ, subℕ}
 use lib.Dec.{eqb}
 use Rattle.wire.specs.Number.{bias}
 use Rattle.slots.specs.Slots.{slotsOf, codeOf}
-use Rattle.book.specs.Message.{bidSide, offerSide}
-use Rattle.book.specs.Words.{bookWidth, bookOf}
-use Rattle.book.specs.declared.Row.{Row}
+use Rattle.ladder.specs.Message.{bidSide, offerSide}
+use Rattle.ladder.specs.Words.{bookWidth, bookOf}
+use Rattle.ladder.specs.declared.Row.{Row}
 use Rattle.feed.specs.Feeds.{newFeed}
 use Rattle.feed.specs.Events.{State, Arrive, Connect}
 use Rattle.feed.specs.Steps.{accepted, Outcome, outcome, step}

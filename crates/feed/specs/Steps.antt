@@ -3,7 +3,7 @@ use Prim.Native.Nat.{ℕ, _+_}
 use mathlib.Core.Bool.{Bool, true, false, cond, _&&_}
 use mathlib.Core.List.{List}
 use lib.Dec.{leb}
-use Rattle.wire.specs.Choice.{first}
+use Rattle.ground.specs.Choice.{first}
 use Rattle.books.specs.Table.{booksAfter}
 use Rattle.feed.specs.Messages.{kind, market, statusOf, logonStatus, lastInternal}
 use Rattle.feed.specs.Feeds.{is, inPhase, nextIs, internalIs, heardAt, wholeIs, freshIs}

@@ -10,8 +10,8 @@ use lib.Dec.{ltb}
 use lib.ListN.{length, replicate, length-take, length-drop}
 use borrow.Author.Tests.{le-leb, lt-leb}
 use Rattle.io.specs.Digits.{Fewest}
-use Rattle.wire.specs.Choice as choice
-use Rattle.book.specs.Words.{bookWidth}
+use Rattle.ground.specs.Choice as choice
+use Rattle.ladder.specs.Words.{bookWidth}
 use Rattle.feed.specs.Feeds.{listedLimit, newGiven}
 use Rattle.feed.specs.Events.{Tables, Connect, Arrive}
 use Rattle.feed.specs.Steps.{Outcome, accepted, lent, stateOf, outOf, handed, outcome}

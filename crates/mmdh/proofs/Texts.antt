@@ -15,10 +15,10 @@ use Rattle.io.specs.Digits.{digits, Fewest}
 use Rattle.wire.specs.Number.{bias}
 use Rattle.slots.specs.Slots.{slotsOf, codeOf}
 use Rattle.slots.proofs.Blocks.{block-at, length-blocks}
-use Rattle.book.specs.Sides.{noRow}
-use Rattle.book.specs.Words.{rowOf, rowsFrom}
-use Rattle.book.specs.declared.Row.{Row}
-use Rattle.book.proofs.Loads.{rows-ten, row-is}
+use Rattle.ladder.specs.Sides.{noRow}
+use Rattle.ladder.specs.Words.{rowOf, rowsFrom}
+use Rattle.ladder.specs.declared.Row.{Row}
+use Rattle.ladder.proofs.Loads.{rows-ten, row-is}
 use Rattle.feed.specs.Program.{Line, sideLines, lines}
 use Rattle.mmdh.specs.Text.{digitsOf, decimal, signed, letter, space, headText, lineOf, lineText, linesText, endText, shown, text, Put}
 use Rattle.mmdh.proofs.Laws.{few}

@@ -7,7 +7,7 @@ use native.Mathlib.Omega.{arith}
 use lib.ListN.{length, replicate, length-replicate}
 use lib.Seq.{length-take-le}
 use borrow.Author.Needs.{needs}
-use Rattle.wire.specs.Choice as choice
+use Rattle.ground.specs.Choice as choice
 use Rattle.feed.specs.Events.{timeOf, news}
 use Rattle.feed.specs.Answers.{arrives, lacksNeed, isMore, lineTests, tableTests, tests}
 use Rattle.feed.specs.Events.{State, onMessage}

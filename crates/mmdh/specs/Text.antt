@@ -8,9 +8,9 @@ use lib.IntN.{ℤ, pos, negsuc, subℕ}
 use lib.Dec.{ltb, eqb}
 use Rattle.wire.specs.Number.{bias}
 use Rattle.slots.specs.Slots.{slotsOf}
-use Rattle.book.specs.Message.{bidSide}
-use Rattle.book.specs.Words.{bookWidth}
-use Rattle.book.specs.declared.Row.{Row}
+use Rattle.ladder.specs.Message.{bidSide}
+use Rattle.ladder.specs.Words.{bookWidth}
+use Rattle.ladder.specs.declared.Row.{Row}
 use Rattle.feed.specs.Program.{Line, lines, Printed}
 
 -- a number in decimal, no zero in front: its last digit, behind those of the number without it; `more` bounds how many those are,

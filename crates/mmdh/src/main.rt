@@ -7,12 +7,12 @@ ghost use mathlib.Core.List.{[], _∷_, _++_};
 ghost use lib.IntN.{subℕ};
 ghost use Rattle.wire.specs.Number.{bias};
 ghost use Rattle.slots.specs.Slots.{slotsOf, codeOf};
-ghost use Rattle.book.specs.Words.{bookWidth, rowsFrom};
+ghost use Rattle.ladder.specs.Words.{bookWidth, rowsFrom};
 ghost use Rattle.feed.specs.Steps.{accepted};
 ghost use Rattle.feed.specs.Program.{bufferSize, connection, sideLines, lines};
 ghost use Rattle.mmdh.specs.Runs.{Within, Called, Refilled, Turned, Drained, Wrote};
 ghost use Rattle.mmdh.specs.Text.{decimal, signed, space, letter, lineOf, lineText, linesText, endText, shown, text, Put};
-use book::Row;
+use ladder::Row;
 use feed::Feed;
 use feed::Link;
 
@@ -250,7 +250,7 @@ fn put_side(out: &mut [u8], at: usize, words: &[u64], side: u64, base: usize, co
             code,
             side,
             i as u64 + 1,
-            book::row_at(words, base + 3 * i),
+            ladder::row_at(words, base + 3 * i),
         );
         i += 1;
     }

@@ -5,8 +5,8 @@ use mathlib.Core.Bool.{Bool, true, false, cond, not, _&&_, true≢false}
 use mathlib.Core.List.{List}
 use lib.Dec.{leb, eqb}
 use borrow.Author.Tests.{eqb-true}
-use Rattle.wire.specs.Choice.{pick, first}
-use Rattle.wire.proofs.Bools.{split}
+use Rattle.ground.specs.Choice.{pick, first}
+use Rattle.ground.proofs.Bools.{split}
 use Rattle.feed.specs.Messages.{kind, market, statusOf, logonStatus}
 use Rattle.feed.specs.Feeds.{phaseNo, is, phaseOf, listedLimit, newFeed, newGiven, colour, badgeNo, badge, badgeOf, internalIs}
 use Rattle.feed.specs.Events.{State, Event}

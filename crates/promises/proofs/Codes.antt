@@ -12,7 +12,7 @@ use lib.ListN.{length, getD, set, replicate, length-append, List·getD-append, L
 use lib.Seq.{getD-set-same, getD-set-other, getD-append-seam}
 use lib.Dec.{eqb}
 use borrow.Author.Tests.{eqb-true, eq-eqb}
-use Rattle.wire.specs.Choice.{oneOf}
+use Rattle.ground.specs.Choice.{oneOf}
 use Rattle.slots.specs.Slots.{slotCount, slotsOf, codeOf, lowest, put, cleared}
 use Rattle.slots.specs.declared.Slot.{Slot}
 use Rattle.slots.specs.declared.Slot.the-variants.{Held, Free, Full}
@@ -20,10 +20,10 @@ use Rattle.slots.proofs.Blocks.{length-blocks, slots-fit, length-put, slots-put
 use Rattle.slots.proofs.Lookup.{codeAt, held-is, free-is, full-is, held-code, free-code, lowest-before}
 use Rattle.slots.proofs.Frame.{taken-fits}
 use Rattle.slots.proofs.Zeros.{length-cleared, slots-cleared}
-use Rattle.book.specs.Message.{securityCode}
-use Rattle.book.specs.Walk as Walk
-use Rattle.book.specs.Words.{wordsOf}
-use Rattle.book.proofs.Writes.{book-words}
+use Rattle.ladder.specs.Message.{securityCode}
+use Rattle.ladder.specs.Walk as Walk
+use Rattle.ladder.specs.Words.{wordsOf}
+use Rattle.ladder.proofs.Writes.{book-words}
 use Rattle.books.specs.Table.{placeIn, noneFree, bookMet, misfit, hasEntries, written, booksAfter}
 use Rattle.promises.specs.GoodMorning.{withCode}
 

@@ -4,7 +4,7 @@ use mathlib.Core.Path.{_≡_, refl, sym, ap, _∙_, subst}
 use mathlib.Core.Bool.{Bool, true, false, cond, not, _&&_, true≢false}
 use mathlib.Core.List.{List, [], _∷_, _++_}
 use lib.Dec.{T}
-use Rattle.wire.proofs.Bools.{split}
+use Rattle.ground.proofs.Bools.{split}
 use Rattle.books.specs.Table.{noSlot, misfits}
 use Rattle.feed.specs.Messages.{kind, onMarket, market, book, statusOf, logonStatus}
 use Rattle.feed.specs.Feeds.{is, internalIs}

@@ -8,17 +8,17 @@ use native.Mathlib.Omega.{arith}
 use lib.ListN.{length, take, drop}
 use lib.Dec.{T, leb, eqb}
 use borrow.Author.Tests.{not-false, eqb-true, leb-true}
-use Rattle.wire.specs.Choice.{oneOf, first, all}
-use Rattle.wire.proofs.Bools.{both, split}
+use Rattle.ground.specs.Choice.{oneOf, first, all}
+use Rattle.ground.proofs.Bools.{both, split}
 use Rattle.wire.specs.Units.{unitOf}
 use Rattle.wire.specs.declared.Unit.{Unit}
 use Rattle.wire.specs.declared.Unit.the-variants as unit
 use Rattle.wire.proofs.Fronts.{unit-fits, unit-stays}
-use Rattle.wire.proofs.Choices.{first-may, first-skips}
+use Rattle.ground.proofs.Choices.{first-may, first-skips}
 use Rattle.books.specs.Table.{unsound, noSlot, misfits, booksAfter}
 use Rattle.books.proofs.Frames.{books-own, books-slots, books-other, books-length, books-tail, book-sound-in}
-use Rattle.book.proofs.Orders.{price-once}
-use Rattle.book.specs.declared.Way.the-variants.{Bid, Offer}
+use Rattle.ladder.proofs.Orders.{price-once}
+use Rattle.ladder.specs.declared.Way.the-variants.{Bid, Offer}
 use Rattle.books.specs.Reading.{readAnswer, readRow}
 use Rattle.books.specs.declared.RowRead.{RowRead}
 use Rattle.feed.specs.Messages.{kind, onMarket, book}

@@ -7,11 +7,11 @@ use mathlib.Core.List.{List, [], _∷_, _++_}
 use lib.ListN.{length, drop}
 use lib.Dec.{T, ltb, leb, eqb}
 use borrow.Author.Tests.{not-true, eqb-true, leb-true, le-leb, le-ltb}
-use Rattle.wire.specs.Choice.{oneOf, pick, first, all}
-use Rattle.wire.proofs.Bools.{both, join, no-second}
+use Rattle.ground.specs.Choice.{oneOf, pick, first, all}
+use Rattle.ground.proofs.Bools.{both, join, no-second}
 use Rattle.slots.specs.Slots.{slotCount, cleared as clearedWords}
-use Rattle.book.specs.Message.{securityCode, listedCode, listedEntry, listedBook, entries}
-use Rattle.book.specs.Walk.{emptyBook, bookAfter}
+use Rattle.ladder.specs.Message.{securityCode, listedCode, listedEntry, listedBook, entries}
+use Rattle.ladder.specs.Walk.{emptyBook, bookAfter}
 use Rattle.books.specs.Table.{placeIn, noneFree, bookMet, misfit, hasEntries, noSlot, misfits, unsound, booksAfter}
 use Rattle.feed.specs.Messages.{kind, onMarket, market, book, wrongSize, listed, statusOf, logonStatus, lastInternal}
 use Rattle.feed.specs.Feeds.{is, deaf, inPhase, internalIs, colour, badgeNo, badge, badgeOf, listedLimit}

@@ -9,9 +9,9 @@ use mathlib.Core.Option.{Option, none, some}
 use lib.ListN.{length, getD, set}
 use lib.Seq.{getD-set-same, getD-set-other}
 use lib.Dec.{T}
-use Rattle.wire.specs.Choice.{oneOf}
-use Rattle.wire.proofs.Bools.{split}
-use Rattle.wire.proofs.Choices.{each-has}
+use Rattle.ground.specs.Choice.{oneOf}
+use Rattle.ground.proofs.Bools.{split}
+use Rattle.ground.proofs.Choices.{each-has}
 use Rattle.slots.specs.Slots.{slotCount, slotsOf, codeOf, put}
 use Rattle.slots.specs.declared.Slot.{Slot}
 use Rattle.slots.specs.declared.Slot.the-variants.{Held, Free, Full}
@@ -19,10 +19,10 @@ use Rattle.slots.proofs.Blocks.{length-blocks, slots-put}
 use Rattle.slots.proofs.Lookup.{held-code, free-code}
 use Rattle.slots.proofs.Frame.{taken-fits}
 use Rattle.slots.proofs.Zeros.{length-cleared, slots-cleared, tail-cleared}
-use Rattle.book.specs.Message.{securityCode}
-use Rattle.book.specs.Walk as Walk
-use Rattle.book.specs.Words.{wordsOf}
-use Rattle.book.proofs.Writes.{book-words}
+use Rattle.ladder.specs.Message.{securityCode}
+use Rattle.ladder.specs.Walk as Walk
+use Rattle.ladder.specs.Words.{wordsOf}
+use Rattle.ladder.proofs.Writes.{book-words}
 use Rattle.books.specs.Table.{placeIn, block, bookMet, hasEntries, written, booksAfter}
 use Rattle.feed.specs.Messages.{kind, onMarket, book, statusOf, logonStatus}
 use Rattle.feed.specs.Events.{Tables, clearedTables, State, Event, News, Linked, More, Heartbeat, Message, news, timeOf, onMessage}

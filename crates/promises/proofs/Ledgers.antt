@@ -7,9 +7,9 @@ use mathlib.Core.List.{List, [], _∷_, _++_}
 use lib.ListN.{length, length-append}
 use lib.Dec.{T, ltb, leb, eqb}
 use borrow.Author.Tests.{not-false, eqb-true, leb-false, lt-ltb}
-use Rattle.wire.specs.Choice.{oneOf, first, all}
-use Rattle.wire.proofs.Bools.{both, split}
-use Rattle.wire.proofs.Choices.{first-may, first-skips, each-has}
+use Rattle.ground.specs.Choice.{oneOf, first, all}
+use Rattle.ground.proofs.Bools.{both, split}
+use Rattle.ground.proofs.Choices.{first-may, first-skips, each-has}
 use Rattle.feed.specs.Messages.{kind, onMarket, market, statusOf, logonStatus, lastInternal}
 use Rattle.feed.specs.Feeds.{is, deaf, inPhase, internalIs, wholeIs}
 use Rattle.feed.specs.Events.{State, Event, News, Linked, More, Heartbeat, Message, news, timeOf, onMessage}

@@ -5,15 +5,15 @@ use mathlib.Core.Bool.{Bool, true, false, not, _&&_, true≢false}
 use mathlib.Core.List.{List, [], _∷_, _++_}
 use lib.Dec.{T, leb, eqb}
 use borrow.Author.Tests.{leb-true, eqb-true}
-use Rattle.wire.specs.Choice.{oneOf, all}
+use Rattle.ground.specs.Choice.{oneOf, all}
 use Rattle.wire.specs.Units.{unitOf}
 use Rattle.wire.specs.declared.Unit.{Unit}
 use Rattle.wire.specs.declared.Unit.the-variants as unit
-use Rattle.wire.proofs.Bools.{both, split, no-second}
-use Rattle.wire.proofs.Choices.{first-may, each-has}
+use Rattle.ground.proofs.Bools.{both, split, no-second}
+use Rattle.ground.proofs.Choices.{first-may, each-has}
 use Rattle.books.specs.Table.{unsound, hasEntries}
 use Rattle.books.proofs.Frames.{AllSound, never-unsound}
-use Rattle.book.specs.Message.{securityCode}
+use Rattle.ladder.specs.Message.{securityCode}
 use Rattle.feed.specs.Messages.{kind, onMarket, book, statusOf, logonStatus}
 use Rattle.feed.specs.Events.{State, Event, Connect, Arrive, Cut, News, Linked, More, Heartbeat, Message, news, cutFrom, timeOf, onMessage}
 use Rattle.feed.specs.Answers.{number, arrives, lacksNeed, isMore, ofBook, lineTests, tableTests, tests, answerTo}

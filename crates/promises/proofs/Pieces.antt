@@ -7,7 +7,7 @@ use mathlib.Core.Bool.{Bool, true, false, cond, _&&_, true≢false}
 use mathlib.Core.List.{List, [], _∷_, _++_, append-assoc, append-nil}
 use lib.ListN.{length, drop}
 use lib.Dec.{T, ltb}
-use Rattle.wire.specs.Choice.{first, all}
+use Rattle.ground.specs.Choice.{first, all}
 use Rattle.wire.specs.Units.{unitOf}
 use Rattle.wire.specs.declared.Unit.the-variants as unit
 use Rattle.feed.specs.Feeds.{deaf}

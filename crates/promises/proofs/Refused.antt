@@ -4,11 +4,11 @@ use mathlib.Core.Path.{_≡_, refl, sym, _∙_}
 use mathlib.Core.Bool.{Bool, false, true≢false}
 use mathlib.Core.List.{List, [], _∷_}
 use lib.Dec.{T}
-use Rattle.wire.specs.Choice.{oneOf, all}
+use Rattle.ground.specs.Choice.{oneOf, all}
 use Rattle.wire.specs.Units.{unitOf}
 use Rattle.wire.specs.declared.Unit.{Unit}
 use Rattle.wire.specs.declared.Unit.the-variants as unit
-use Rattle.wire.proofs.Choices.{first-may, each-has}
+use Rattle.ground.proofs.Choices.{first-may, each-has}
 use Rattle.feed.specs.Events.{State, Event, Connect, Arrive, Cut, timeOf, News, news, cutFrom, onMessage}
 use Rattle.feed.specs.Answers.{number, arrives, lacksNeed, isMore, lineTests, tableTests, tests, answerTo, reply}
 use Rattle.feed.specs.Steps.{act, accepted, usedOf, Outcome, handed, outcome}

@@ -13,11 +13,11 @@ use Rattle.slots.specs.declared.Slot.{Slot}
 use Rattle.slots.specs.declared.Slot.the-variants.{Held, Free, Full}
 use Rattle.slots.proofs.Blocks.{slots-fit, length-put, tail-put}
 use Rattle.slots.proofs.Frame.{taken-fits}
-use Rattle.wire.proofs.Bools.{split}
-use Rattle.book.specs.Message.{securityCode}
-use Rattle.book.specs.Words.{wordsOf}
-use Rattle.book.specs.Walk as Walk
-use Rattle.book.proofs.Writes.{book-words}
+use Rattle.ground.proofs.Bools.{split}
+use Rattle.ladder.specs.Message.{securityCode}
+use Rattle.ladder.specs.Words.{wordsOf}
+use Rattle.ladder.specs.Walk as Walk
+use Rattle.ladder.proofs.Writes.{book-words}
 use Rattle.books.specs.Table.{placeIn, bookMet, hasEntries, written, booksAfter}
 use Rattle.feed.specs.Messages.{kind, market, statusOf, logonStatus}
 use Rattle.feed.specs.Feeds.{is, internalIs}

@@ -6,16 +6,16 @@ use mathlib.Core.List.{List, [], _∷_, _++_}
 use lib.Dec.{T, eqb}
 use lib.ListN.{drop, replicate}
 use borrow.Author.Tests.{eqb-true, eqb-false}
-use Rattle.wire.specs.Choice.{all}
+use Rattle.ground.specs.Choice.{all}
 use Rattle.wire.specs.Number.{bytesOnly}
 use Rattle.wire.specs.Units.{unitOf}
 use Rattle.wire.specs.declared.Unit.{Unit}
 use Rattle.wire.specs.declared.Unit.the-variants as unit
 use Rattle.slots.specs.Slots.{cleared as clearedWords}
-use Rattle.book.specs.Message.{securityCode}
-use Rattle.book.specs.Walk as Walk
-use Rattle.book.specs.Words.{sound}
-use Rattle.book.proofs.Orders.{all-take, all-drop}
+use Rattle.ladder.specs.Message.{securityCode}
+use Rattle.ladder.specs.Walk as Walk
+use Rattle.ladder.specs.Words.{sound}
+use Rattle.ladder.proofs.Orders.{all-take, all-drop}
 use Rattle.books.specs.Table.{unsound, noSlot, misfits, booksAfter}
 use Rattle.books.proofs.Frames.{AllSound, books-sound, books-own, books-other, cleared-sound, cleared-empty}
 use Rattle.feed.specs.Messages.{kind, onMarket, book, statusOf, logonStatus}

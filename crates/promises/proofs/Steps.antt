@@ -5,8 +5,8 @@ use mathlib.Core.Bool.{Bool, true, false, cond, not, true≢false}
 use mathlib.Core.List.{List, [], _∷_}
 use lib.Dec.{T, eqb}
 use borrow.Author.Tests.{not-false}
-use Rattle.wire.specs.Choice.{oneOf, first, all}
-use Rattle.wire.proofs.Choices.{testOf, noneUpto, first-may, first-skips, each-has}
+use Rattle.ground.specs.Choice.{oneOf, first, all}
+use Rattle.ground.proofs.Choices.{testOf, noneUpto, first-may, first-skips, each-has}
 use Rattle.books.specs.Table.{unsound, noSlot, misfits}
 use Rattle.feed.specs.Messages.{kind, onMarket, book, wrongSize, listed}
 use Rattle.feed.specs.Feeds.{inPhase, heardAt, wholeIs}

@@ -7,17 +7,17 @@ use mathlib.Core.Logic.{_⊎_}
 use mathlib.Core.Option.{some}
 use lib.ListN.{length, drop, getD}
 use lib.Dec.{T, eqb}
-use Rattle.wire.specs.Choice.{oneOf, all}
+use Rattle.ground.specs.Choice.{oneOf, all}
 use Rattle.wire.specs.Number.{bytesOnly}
 use Rattle.wire.specs.Units.{unitOf}
 use Rattle.wire.specs.declared.Unit.the-variants as unit
 use Rattle.slots.specs.Slots.{slotCount, slotsOf}
 use Rattle.slots.specs.declared.Slot.the-variants.{Held, Free}
-use Rattle.book.specs.Message.{securityCode}
-use Rattle.book.specs.Sides.{noRow}
-use Rattle.book.specs.Walk.{Book, emptyBook, bookAfter}
-use Rattle.book.specs.Words.{bookWidth, sound}
-use Rattle.book.specs.Loading.{SoundBook}
+use Rattle.ladder.specs.Message.{securityCode}
+use Rattle.ladder.specs.Sides.{noRow}
+use Rattle.ladder.specs.Walk.{Book, emptyBook, bookAfter}
+use Rattle.ladder.specs.Words.{bookWidth, sound}
+use Rattle.ladder.specs.Loading.{SoundBook}
 use Rattle.books.specs.Table.{placeIn, block, bookAt}
 use Rattle.books.specs.Reading.{readRow}
 use Rattle.feed.specs.Messages.{kind, statusOf, logonStatus}

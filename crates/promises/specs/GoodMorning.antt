@@ -6,11 +6,11 @@ use mathlib.Core.Bool.{Bool, true, false, cond, not, _&&_, _||_}
 use mathlib.Core.List.{List, [], _∷_, _++_}
 use lib.ListN.{length}
 use lib.Dec.{T, leb, eqb}
-use Rattle.wire.specs.Choice.{oneOf, all}
+use Rattle.ground.specs.Choice.{oneOf, all}
 use Rattle.slots.specs.Slots.{slotCount}
-use Rattle.book.specs.Message.{securityCode}
-use Rattle.book.specs.Walk.{emptyBook, bookAfter}
-use Rattle.book.specs.Words.{bookWidth}
+use Rattle.ladder.specs.Message.{securityCode}
+use Rattle.ladder.specs.Walk.{emptyBook, bookAfter}
+use Rattle.ladder.specs.Words.{bookWidth}
 use Rattle.books.specs.Table.{hasEntries, misfit}
 use Rattle.feed.specs.Messages.{kind, wrongSize, listed, statusOf, logonStatus, lastInternal}
 use Rattle.feed.specs.Feeds.{badgeNo, badgeOf}

@@ -5,7 +5,7 @@ use mathlib.Core.Bool.{Bool, true, false, _||_}
 use mathlib.Core.List.{List}
 use lib.ListN.{length, drop, replicate}
 use Rattle.slots.specs.Slots.{slotCount, slotsOf, codeOf}
-use Rattle.book.specs.Words.{bookWidth}
+use Rattle.ladder.specs.Words.{bookWidth}
 use Rattle.books.specs.Table.{block}
 use Rattle.feed.specs.Messages.{kind, onMarket, book, statusOf, logonStatus}
 use Rattle.feed.specs.Events.{State, Event, news, onMessage}

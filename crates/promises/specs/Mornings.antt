@@ -4,7 +4,7 @@ use Prim.Native.String.{String}
 use mathlib.Core.Bool.{Bool, true, false, not, _&&_, Bool·beq}
 use mathlib.Core.List.{List, [], _∷_, _++_}
 use lib.Dec.{eqb}
-use Rattle.wire.specs.Choice.{all}
+use Rattle.ground.specs.Choice.{all}
 use Rattle.feed.specs.Events.{Event, Connect, Arrive, Cut}
 use Rattle.feed.specs.declared.Link.the-variants.{Fresh, Resuming}
 use Rattle.promises.specs.Checks.{Check, sameWords}

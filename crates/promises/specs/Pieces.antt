@@ -4,7 +4,7 @@ use mathlib.Core.Path.{_≡_}
 use mathlib.Core.List.{List, [], _∷_, _++_}
 use lib.ListN.{drop}
 use lib.Dec.{T}
-use Rattle.wire.specs.Choice.{all}
+use Rattle.ground.specs.Choice.{all}
 use Rattle.feed.specs.Events.{State, Arrive}
 use Rattle.feed.specs.Steps.{accepted, outcome}
 use Rattle.promises.specs.Runs.{after}

@@ -2,7 +2,7 @@
 use Prim.Native.Nat.{ℕ}
 use mathlib.Core.Bool.{false, cond}
 use mathlib.Core.List.{List, [], _∷_, _++_}
-use Rattle.wire.specs.Choice.{oneOf}
+use Rattle.ground.specs.Choice.{oneOf}
 use Rattle.feed.specs.Feeds.{inPhase, wholeIs}
 use Rattle.feed.specs.Events.{State, Event, Connect, Arrive, Cut}
 use Rattle.feed.specs.Steps.{Outcome}

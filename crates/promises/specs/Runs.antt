@@ -5,9 +5,9 @@ use mathlib.Core.List.{List, [], _∷_, _++_}
 use mathlib.Core.Option.{Option, none, some}
 use lib.ListN.{replicate}
 use lib.Dec.{leb, eqb}
-use Rattle.wire.specs.Choice.{oneOf}
-use Rattle.book.specs.Message.{securityCode}
-use Rattle.book.specs.Walk.{Book, bookAfter}
+use Rattle.ground.specs.Choice.{oneOf}
+use Rattle.ladder.specs.Message.{securityCode}
+use Rattle.ladder.specs.Walk.{Book, bookAfter}
 use Rattle.feed.specs.Messages.{kind, statusOf, logonStatus}
 use Rattle.feed.specs.Feeds.{newGiven}
 use Rattle.feed.specs.Events.{Tables, State, Event, News, Linked, More, Heartbeat, Message, news, timeOf}

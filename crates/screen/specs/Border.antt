@@ -6,7 +6,7 @@ use mathlib.Core.Bool.{true}
 use mathlib.Core.List.{List, [], _∷_}
 use lib.ListN.{length, replicate}
 use lib.Dec.{T, eqb}
-use Rattle.wire.specs.Choice.{oneOf}
+use Rattle.ground.specs.Choice.{oneOf}
 use Rattle.feed.specs.Feeds.{newGiven, plainBadge}
 use Rattle.feed.specs.Events.{State, Event, Connect, Arrive, Cut}
 use Rattle.feed.specs.Steps.{lent, stateOf, Outcome, outcome}

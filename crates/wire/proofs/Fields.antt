@@ -8,7 +8,7 @@ use mathlib.Core.List.{List, [], _∷_, _++_}
 use lib.Dec.{T, ltb, ltb→lt, lit<}
 use lib.ListN.{length, getD, drop, List·getD-eq-default, List·getD-append}
 use lib.Seq.{getD-drop}
-use Rattle.wire.specs.Choice.{all}
+use Rattle.ground.specs.Choice.{all}
 use Rattle.wire.specs.Number.{field, bytesOnly}
 
 both : (a b : Bool) → T (a && b) → T a × T b

@@ -1,5 +1,3 @@
-pub mod Bools
-pub mod Choices
 pub mod Fields
 pub mod Fronts
 pub mod Signed

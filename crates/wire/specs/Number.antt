@@ -4,7 +4,7 @@ use mathlib.Core.Bool.{Bool}
 use mathlib.Core.List.{List}
 use lib.Dec.{ltb}
 use lib.ListN.{getD}
-use Rattle.wire.specs.Choice.{all}
+use Rattle.ground.specs.Choice.{all}
 
 -- Integers are little-endian: the number in the n bytes from `at` on (a byte beyond the end counts as 0)
 unfoldable pub field : ℕ → ℕ → List ℕ → ℕ

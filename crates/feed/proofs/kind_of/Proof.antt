@@ -1,4 +1,4 @@
-use Rattle.wire.specs.Choice.{pick}
+use Rattle.ground.specs.Choice.{pick}
 use Rattle.feed.specs.Messages.{kindOf}
 use Rattle.feed.proofs.Parts.{parts}
 use Rattle.feed.proofs.kind_of.Statement.{statement}

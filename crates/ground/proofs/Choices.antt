@@ -1,0 +1,108 @@
+-- Laws of the lists of specs/Choice. Assumes nothing.
+use Prim.Native.Nat.{ℕ}
+use mathlib.Core.Path.{_≡_, refl, sym, ap, subst}
+use mathlib.Core.Bool.{Bool, true, false, cond, not, _&&_, _||_}
+use mathlib.Core.List.{List, [], _∷_, _++_}
+use lib.Dec.{T, eqb, eqb→eq}
+use Rattle.ground.specs.Choice.{oneOf, first, all}
+
+-- tests in order, each of which has the property beside it or does not pass: what is picked has the property
+pub first-may : {A : Type 0} (g : A → Bool) (ts : List (Bool × A)) (other : A)
+    → T (all (λ t. g (t .1) || not (t .0)) ts) → T (g other) → T (g (first ts other))
+unfolding first all
+first-may g [] other h z = z
+first-may {A} g (t ∷ ts) other h z = go (t .0) (g (t .1)) (all (λ t. g (t .1) || not (t .0)) ts) h (λ r. first-may g ts other r z) refl
+  where
+    go : (b c r : Bool) → T ((c || not b) && r) → (T r → T (g (first ts other))) → c ≡ g (t .1) → T (g (cond b (t .1) (first ts other)))
+    go true true r h k e = subst (λ (x : Bool). T x) e tt
+    go true false r h k e = absurd h
+    go false true r h k e = k h
+    go false false r h k e = k h
+
+-- a property at every number of a list
+abbrev pub Each : (ℕ → Type 0) → List ℕ → Type 0
+Each P [] = Unit
+Each P (k ∷ ks) = P k × Each P ks
+
+-- a number that is among those listed has their property
+pub each-has : (P : ℕ → Type 0) (ks : List ℕ) → Each P ks → (n : ℕ) → T (oneOf n ks) → P n
+unfolding oneOf
+each-has P [] p n h = absurd h
+each-has P (k ∷ ks) p n h = go (eqb n k) refl h (each-has P ks (p .1) n)
+  where
+    go : (b : Bool) → eqb n k ≡ b → T (b || oneOf n ks) → (T (oneOf n ks) → P n) → P n
+    go true e h rest = subst P (sym (eqb→eq n k (subst (λ (x : Bool). T x) (sym e) tt))) (p .0)
+    go false e h rest = rest h
+
+-- the test beside the first answer that is the one asked for, and false where there is none
+abbrev pub testOf : {A : Type 0} → (A → Bool) → List (Bool × A) → Bool
+testOf asked [] = false
+testOf asked (t ∷ ts) = cond (asked (t .1)) (t .0) (testOf asked ts)
+
+-- no answer up to that one has a property
+abbrev pub noneUpto : {A : Type 0} → (A → Bool) → (A → Bool) → List (Bool × A) → Bool
+noneUpto g asked [] = true
+noneUpto g asked (t ∷ ts) = not (g (t .1)) && cond (asked (t .1)) true (noneUpto g asked ts)
+
+-- what is picked has a property that no answer up to the one asked for has: so its test did not pass
+pub first-skips : {A : Type 0} (g asked : A → Bool) (ts : List (Bool × A)) (other : A) → T (g (first ts other)) → T (noneUpto g asked ts) → testOf asked ts ≡ false
+unfolding first
+first-skips g asked [] other h n = refl
+first-skips {A} g asked (t ∷ ts) other h n = go (t .0) (g (t .1)) (asked (t .1)) refl h n (first-skips g asked ts other)
+  where
+    go : (b c d : Bool) → c ≡ g (t .1) → T (g (cond b (t .1) (first ts other))) → T (not c && cond d true (noneUpto g asked ts))
+        → (T (g (first ts other)) → T (noneUpto g asked ts) → testOf asked ts ≡ false) → cond d b (testOf asked ts) ≡ false
+    go b true d e h n rest = absurd n
+    go true false d e h n rest = absurd (subst (λ (x : Bool). T x) (sym e) h)
+    go false false true e h n rest = refl
+    go false false false e h n rest = rest h n
+
+-- and where no answer of the list has it, no test passes
+pub first-fails : {A : Type 0} (g : A → Bool) (ts : List (Bool × A)) (other : A) → T (g (first ts other)) → T (all (λ t. not (g (t .1))) ts) → T (all (λ t. not (t .0)) ts)
+unfolding first all
+first-fails g [] other h n = tt
+first-fails {A} g (t ∷ ts) other h n = go (t .0) (g (t .1)) refl h n (first-fails g ts other)
+  where
+    go : (b c : Bool) → c ≡ g (t .1) → T (g (cond b (t .1) (first ts other))) → T (not c && all (λ t. not (g (t .1))) ts)
+        → (T (g (first ts other)) → T (all (λ t. not (g (t .1))) ts) → T (all (λ t. not (t .0)) ts)) → T (not b && all (λ t. not (t .0)) ts)
+    go b true e h n rest = absurd n
+    go true false e h n rest = absurd (subst (λ (x : Bool). T x) (sym e) h)
+    go false false e h n rest = rest h n
+
+-- what is picked has a property that the other has not: so it stands in the list, and another other makes no difference
+pub first-settles : {A : Type 0} (g : A → Bool) (ts : List (Bool × A)) (other another : A) → T (g (first ts other)) → g other ≡ false → first ts another ≡ first ts other
+unfolding first
+first-settles g [] other another h n = absurd (subst (λ (x : Bool). T x) n h)
+first-settles {A} g (t ∷ ts) other another h n = go (t .0) h (λ k. first-settles g ts other another k n)
+  where
+    go : (b : Bool) → T (g (cond b (t .1) (first ts other))) → (T (g (first ts other)) → first ts another ≡ first ts other)
+        → cond b (t .1) (first ts another) ≡ cond b (t .1) (first ts other)
+    go true h rest = refl
+    go false h rest = rest h
+
+-- two lists one after the other: the second is asked where no test of the first passes
+pub first-append : {A : Type 0} (ts us : List (Bool × A)) (other : A) → first (ts ++ us) other ≡ first ts (first us other)
+unfolding first
+first-append [] us other = refl
+first-append (t ∷ ts) us other = ap (cond (t .0) (t .1)) (first-append ts us other)
+
+-- a test that passes after none before it gives its answer
+pub first-at : {A : Type 0} (ts us : List (Bool × A)) (a other : A) → T (all (λ t. not (t .0)) ts) → first (ts ++ ((true, a) ∷ us)) other ≡ a
+unfolding first all
+first-at [] us a other h = refl
+first-at {A} (t ∷ ts) us a other h = go (t .0) h (first-at ts us a other)
+  where
+    go : (b : Bool) → T (not b && all (λ t. not (t .0)) ts) → (T (all (λ t. not (t .0)) ts) → first (ts ++ ((true, a) ∷ us)) other ≡ a)
+        → cond b (t .1) (first (ts ++ ((true, a) ∷ us)) other) ≡ a
+    go true h rest = absurd h
+    go false h rest = rest h
+
+-- and where none passes, the other is picked
+pub first-none : {A : Type 0} (ts : List (Bool × A)) (other : A) → T (all (λ t. not (t .0)) ts) → first ts other ≡ other
+unfolding first all
+first-none [] other h = refl
+first-none {A} (t ∷ ts) other h = go (t .0) h (first-none ts other)
+  where
+    go : (b : Bool) → T (not b && all (λ t. not (t .0)) ts) → (T (all (λ t. not (t .0)) ts) → first ts other ≡ other) → cond b (t .1) (first ts other) ≡ other
+    go true h rest = absurd h
+    go false h rest = rest h

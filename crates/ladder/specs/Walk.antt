@@ -1,0 +1,45 @@
+-- A book, and what the entries of a message make of it (document 01, "Entries, against a side of n rows"). Assumes nothing.
+use Prim.Native.Nat.{ℕ}
+use mathlib.Core.Bool.{cond}
+use mathlib.Core.List.{List, [], _∷_}
+use mathlib.Core.Option.{Option, none, some, Option·map, bind}
+use lib.Dec.{eqb}
+use Rattle.ground.specs.Choice.{pick}
+use Rattle.ladder.specs.Message.{bidSide, offerSide, clear, entries}
+use Rattle.ladder.specs.Sides.{onSide}
+use Rattle.ladder.specs.declared.Way.the-variants.{Bid, Offer}
+use Rattle.ladder.specs.declared.Row.{Row}
+use Rattle.ladder.specs.declared.Entry.{Entry}
+
+pub record Book : Type 0 where
+  pub bids : List Row
+  pub offers : List Row
+
+abbrev pub emptyBook : Book
+emptyBook = record { bids = []; offers = [] }
+
+abbrev pub withBids : Book → List Row → Book
+withBids b s = record { bids = s; offers = b .offers }
+
+abbrev pub withOffers : Book → List Row → Book
+withOffers b s = record { bids = b .bids; offers = s }
+
+-- the book after one entry that comes at a time, and none where it does not fit. "Clear: both sides empty; side, level and price not looked at".
+-- (No row keeps the time yet: request 9 of document 02 will.)
+unfoldable pub onBook : ℕ → Entry → Book → Option Book
+onBook time e b =
+    cond (eqb (e .action) clear) (some emptyBook)
+    (pick (e .side)
+    ((bidSide, Option·map (withBids b) (onSide Bid e (b .bids)))
+    ∷ (offerSide, Option·map (withOffers b) (onSide Offer e (b .offers)))
+    ∷ [])
+    none)
+
+-- "Each entry meets the book as the entries before it left it. The walk stops at the first entry that does not fit, and then nothing .. is applied"
+unfoldable pub walk : ℕ → List Entry → Book → Option Book
+walk time [] b = some b
+walk time (e ∷ es) b = bind (onBook time e b) (walk time es)
+
+-- a book after a message that comes at a time
+abbrev pub bookAfter : ℕ → List ℕ → Book → Option Book
+bookAfter time m b = walk time (entries m) b
