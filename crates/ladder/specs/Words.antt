@@ -1,5 +1,5 @@
 -- The 64 words of a book, and which of them are sound (document 01, "The book table"). Assumes nothing.
-use Prim.Native.Nat.{ℕ}
+use Prim.Native.Nat.{ℕ, _+_, _*_}
 use mathlib.Core.Bool.{Bool, true, _&&_}
 use mathlib.Core.List.{List, [], _∷_, _++_, map}
 use lib.ListN.{length, take, drop, getD, replicate}
@@ -14,10 +14,14 @@ use Rattle.ladder.specs.declared.Way.the-variants.{Bid, Offer}
 use Rattle.ladder.specs.Walk.{Book}
 use Rattle.ladder.specs.declared.Row.{Row}
 
--- "One book is 64 words": word 0 the code, 1 the bid rows, 2 the offer rows, 3 zero, 4 to 33 the bids, 34 to 63 the offers
-abbrev pub bookWidth : ℕ
-bookWidth = 64
+-- "A row is three words: price + 2,147,483,648, quantity, orders"; a side is ten rows
+abbrev pub rowWidth : ℕ
+rowWidth = 3
 
+abbrev pub sideWidth : ℕ
+sideWidth = rowWidth * depth
+
+-- "One book is 64 words": word 0 the code, 1 the bid rows, 2 the offer rows, 3 zero, 4 to 33 the bids, 34 to 63 the offers
 abbrev pub bidCount : List ℕ → ℕ
 bidCount w = getD w 1 0
 
@@ -31,11 +35,10 @@ abbrev pub bidsAt : ℕ
 bidsAt = 4
 
 abbrev pub offersAt : ℕ
-offersAt = 34
+offersAt = bidsAt + sideWidth
 
--- "A row is three words: price + 2,147,483,648, quantity, orders"
-abbrev pub rowWidth : ℕ
-rowWidth = 3
+abbrev pub bookWidth : ℕ
+bookWidth = offersAt + sideWidth
 
 abbrev pub rowOf : List ℕ → Row
 rowOf w = record { price = getD w 0 0; quantity = getD w 1 0; orders = getD w 2 0 }

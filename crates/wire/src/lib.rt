@@ -6,6 +6,17 @@ ghost use lib.IntN.{subℕ};
 ghost use Rattle.wire.specs.Number.{field, bias, biased as biasedOf};
 ghost use Rattle.wire.specs.Units.{unitOf, messageIn};
 
+// How many numbers 4 bytes hold, and the bias of a price.
+pub const WORD32: u64 = 4294967296;
+
+const BIAS: u64 = 2147483648;
+const SIGNED_BIAS: i64 = BIAS as i64;
+
+// The bytes of a header, and of MsgSize behind it.
+pub const HEADER_BYTES: usize = 20;
+
+const SIZED_BYTES: usize = HEADER_BYTES + 2;
+
 // What stands at the front of a stream: more bytes are wanted; a header alone; a header and a message of `size` bytes behind it.
 pub enum Unit {
     More,
@@ -111,7 +122,7 @@ pub fn biased(raw: u64) -> u64
     requires { ⌜ raw < 4294967296 ⌝ }
     ensures { λ r. ⌜ (r ≡ biasedOf raw) × (r < 4294967296) ⌝ }
 {
-    (raw + 2147483648) % 4294967296
+    (raw + BIAS) % WORD32
 }
 
 // The signed price that a word is kept for.
@@ -119,25 +130,25 @@ pub fn price_of(word: u64) -> i64
     requires { ⌜ word < 4294967296 ⌝ }
     ensures { λ r. ⌜ r ≡ subℕ word bias ⌝ }
 {
-    word as i64 - 2147483648
+    word as i64 - SIGNED_BIAS
 }
 
 // What stands at the front of a stream.
 pub fn unit_in(s: &[u8]) -> Unit
     ensures { λ r. ⌜ r ≡ unitOf (now (s .entry)) ⌝ }
 {
-    if s.len() < 20 {
+    if s.len() < HEADER_BYTES {
         return Unit::More;
     }
     let length = u16_in(s, 0);
-    if length == 20 {
+    if length == HEADER_BYTES as u64 {
         return Unit::Heartbeat;
     }
-    if s.len() < 22 {
+    if s.len() < SIZED_BYTES {
         return Unit::More;
     }
-    let size = u16_in(s, 20) as usize;
-    if s.len() < 20 + size {
+    let size = u16_in(s, HEADER_BYTES) as usize;
+    if s.len() < HEADER_BYTES + size {
         return Unit::More;
     }
     let seq = u32_in(s, 4) as u32;
@@ -153,13 +164,13 @@ pub fn unit_in(s: &[u8]) -> Unit
 pub fn message(s: &[u8], size: usize) -> &[u8]
     ensures { λ r. ⌜ now r ≡ messageIn (now (s .entry)) size ⌝ }
 {
-    if s.len() < 20 {
+    if s.len() < HEADER_BYTES {
         return &s[..0];
     }
-    if s.len() - 20 < size {
-        return &s[20..];
+    if s.len() - HEADER_BYTES < size {
+        return &s[HEADER_BYTES..];
     }
-    &s[20..20 + size]
+    &s[HEADER_BYTES..HEADER_BYTES + size]
 }
 
 // A place in a stream.
