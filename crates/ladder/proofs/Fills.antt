@@ -8,18 +8,19 @@ use lib.ListN.{length, take, getD, set, length-set}
 use lib.Seq.{take-all, take-suc, take-suc-set}
 use Rattle.ladder.specs.Sides.{noRow}
 use Rattle.ladder.specs.declared.Row.{Row}
+use Rattle.ladder.specs.Message.{depth}
 
 -- the first i of ten rows are those that are wanted
 pub record Filled (want rows : List Row) (i : ℕ) : Type 0 where
-  pub upto : i ≤ 10
-  pub whole : length want ≡ 10
-  pub ten : length rows ≡ 10
+  pub upto : i ≤ depth
+  pub whole : length want ≡ depth
+  pub ten : length rows ≡ depth
   pub so-far : take i rows ≡ take i want
 
-pub fill-none : (want rows : List Row) → length want ≡ 10 → length rows ≡ 10 → Filled want rows 0
+pub fill-none : (want rows : List Row) → length want ≡ depth → length rows ≡ depth → Filled want rows 0
 fill-none want rows w t = record { upto = omega arith; whole = w; ten = t; so-far = refl }
 
-pub fill-one : (want rows : List Row) (i : ℕ) (r : Row) → Filled want rows i → i < 10 → r ≡ getD want i noRow → Filled want (set rows i r) (i + 1)
+pub fill-one : (want rows : List Row) (i : ℕ) (r : Row) → Filled want rows i → i < depth → r ≡ getD want i noRow → Filled want (set rows i r) (i + 1)
 fill-one want rows i r p h e = record {
   upto = omega arith;
   whole = p .whole;
@@ -30,5 +31,5 @@ fill-one want rows i r p h e = record {
       ∙ sym (take-suc want i noRow (omega (arith, p .whole))));
 }
 
-pub fill-all : (want rows : List Row) (i : ℕ) → Filled want rows i → 10 ≤ i → rows ≡ want
+pub fill-all : (want rows : List Row) (i : ℕ) → Filled want rows i → depth ≤ i → rows ≡ want
 fill-all want rows i p h = sym (take-all i rows (omega (arith, p .ten))) ∙ p .so-far ∙ take-all i want (omega (arith, p .whole))

@@ -11,7 +11,7 @@ use borrow.Author.Needs.{needs}
 use borrow.Author.Tests.{lt-ltb, le-ltb, le-leb, lt-leb, eq-eqb, ne-eqb, leb-true, eqb-true, eqb-false}
 use Rattle.ground.specs.Choice.{pick}
 use Rattle.ground.proofs.Bools.{both, cond-same, cond-test}
-use Rattle.ladder.specs.Message.{listedRank}
+use Rattle.ladder.specs.Message.{depth, listedRank}
 use Rattle.ladder.specs.Sides.{better, noRow, rowAt, has, newFits, newRows, changeFits, changeRows, deleteFits, deleteRows, fits, rowsAfter}
 use Rattle.ladder.specs.Words.{pad}
 use Rattle.ladder.specs.Arrays.{Side, live, Padded, fitsAt, wayOf, tenAfter, countAfter}
@@ -116,19 +116,19 @@ module _ (w : Way) (s : Side) (pad : Padded s) (p : ℕ) (rank : 1 ≤ p) (x : �
   unfolding deleteFits
   delete-is = rw long
 
-pub fits-is : (w : Way) (s : Side) (e : Entry) → Padded s → 1 ≤ e .level → e .level ≤ 10
+pub fits-is : (w : Way) (s : Side) (e : Entry) → Padded s → 1 ≤ e .level → e .level ≤ depth
     → fits w e (live s) ≡ fitsAt w (e .action) (s .n) (e .level) (getD (s .rows) (e .level - 2) noRow .price) (getD (s .rows) (e .level - 1) noRow .price) (e .row .price)
 unfolding fits listedRank fitsAt pick
 fits-is w s e pad a b =
-    rw (le-leb 1 (e .level) a, le-leb (e .level) 10 b, new-is w s pad (e .level) a (e .row .price) (e .row) refl, change-is w s pad (e .level) a (e .row .price) (e .row) refl, delete-is w s pad (e .level) a (e .row .price))
+    rw (le-leb 1 (e .level) a, le-leb (e .level) depth b, new-is w s pad (e .level) a (e .row .price) (e .row) refl, change-is w s pad (e .level) a (e .row .price) (e .row) refl, delete-is w s pad (e .level) a (e .row .price))
 
 -- an entry that fits is at a rank from 1 to 10
-pub fit-rank : (w : Way) (e : Entry) (s : List Row) → fits w e s ≡ true → (1 ≤ e .level) × (e .level ≤ 10)
+pub fit-rank : (w : Way) (e : Entry) (s : List Row) → fits w e s ≡ true → (1 ≤ e .level) × (e .level ≤ depth)
 unfolding fits listedRank
 fit-rank w e s h =
-    let r = both (leb 1 (e .level) && leb (e .level) 10) _ h .0 in
-    let q = both (leb 1 (e .level)) (leb (e .level) 10) r in
-    (leb-true 1 (e .level) (q .0), leb-true (e .level) 10 (q .1))
+    let r = both (leb 1 (e .level) && leb (e .level) depth) _ h .0 in
+    let q = both (leb 1 (e .level)) (leb (e .level) depth) r in
+    (leb-true 1 (e .level) (q .0), leb-true (e .level) depth (q .1))
 
 -- what an entry of each action that fits tells
 module _ (w : Way) (e : Entry) (s : List Row) (h : fits w e s ≡ true) where
@@ -168,7 +168,7 @@ module _ (w : Way) (e : Entry) (s : List Row) (h : fits w e s ≡ true) where
 
 -- the ten rows and the count that the code makes are those of the rows after the entry
 module _ (w : Way) (s : Side) (e : Entry) (p : Padded s) (h : fits w e (live s) ≡ true) where
-  rank : (1 ≤ e .level) × (e .level ≤ 10)
+  rank : (1 ≤ e .level) × (e .level ≤ depth)
   rank = fit-rank w e (live s) h
 
   long-live : length (live s) ≡ s .n
@@ -179,7 +179,7 @@ module _ (w : Way) (s : Side) (e : Entry) (p : Padded s) (h : fits w e (live s) 
 
   ten-new : e .action ≡ 0 → tenAfter e (s .rows) ≡ pad (rowsAfter e (live s))
   unfolding tenAfter rowsAfter pick newRows
-  ten-new a = rw a (ap (λ (x : List Row). take 10 (ins (e .level - 1) (e .row) x)) (p .zeros) ∙ pad-new (e .level - 1) (e .row) (live s) (omega (arith, fit-new w e (live s) h a)))
+  ten-new a = rw a (ap (λ (x : List Row). take depth (ins (e .level - 1) (e .row) x)) (p .zeros) ∙ pad-new (e .level - 1) (e .row) (live s) (omega (arith, fit-new w e (live s) h a)))
 
   ten-change : e .action ≡ 1 → tenAfter e (s .rows) ≡ pad (rowsAfter e (live s))
   unfolding tenAfter rowsAfter pick changeRows
@@ -201,7 +201,7 @@ module _ (w : Way) (s : Side) (e : Entry) (p : Padded s) (h : fits w e (live s) 
   length-new : e .action ≡ 0 → countAfter (e .action) (s .n) ≡ length (rowsAfter e (live s))
   unfolding countAfter rowsAfter pick newRows
   length-new a =
-      rw (a, length-take 10 (ins (e .level - 1) (e .row) (live s)), length-ins noRow (live s) (e .level - 1) (e .row) (omega (arith, fit-new w e (live s) h a)), long-live)
+      rw (a, length-take depth (ins (e .level - 1) (e .row) (live s)), length-ins noRow (live s) (e .level - 1) (e .row) (omega (arith, fit-new w e (live s) h a)), long-live)
 
   length-change : e .action ≡ 1 → countAfter (e .action) (s .n) ≡ length (rowsAfter e (live s))
   unfolding countAfter rowsAfter pick changeRows

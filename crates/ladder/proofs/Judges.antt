@@ -17,13 +17,14 @@ use Rattle.ground.specs.Choice.{all}
 use Rattle.wire.specs.Number.{word32}
 use Rattle.ground.proofs.Bools.{both, join, split}
 use Rattle.ladder.specs.Sides.{better, noRow}
-use Rattle.ladder.specs.Words.{rowOf, rowsFrom, bestFirst, bounded, zeroRow, soundSide, sound}
+use Rattle.ladder.specs.Words.{rowWidth, sideWidth, bidsAt, offersAt, rowOf, rowsFrom, bestFirst, bounded, zeroRow, soundSide, sound}
 use Rattle.ladder.specs.Loading.{inOrder, usedOf, lowsOf, soundWords}
 use Rattle.ladder.specs.declared.Way.{Way}
 use Rattle.ladder.specs.declared.Way.the-variants.{Bid, Offer}
 use Rattle.ladder.specs.declared.Row.{Row}
 use Rattle.ladder.proofs.Loads.{rows-ten, row-is}
 use Rattle.ladder.proofs.Tells.{all-of, bounded-is, side-few, unused-zero, used-bounded, side-rows}
+use Rattle.ladder.specs.Message.{depth}
 
 -- two tests that tell the same, and one that cannot pass
 same-test : (a b : Bool) → (a ≡ true → b ≡ true) → (b ≡ true → a ≡ true) → a ≡ b
@@ -161,16 +162,16 @@ module _ (rows : List Row) where
       or-lt 32 (lowsOf m rows) (bitOr (r .price) (r .orders)) (bounded-lows m (λ j a. f j (omega arith))) (or-lt 32 (r .price) (r .orders) (b .0) (b .1))
 
 -- a side is sound where its count is at most the rows in order, at least the rows used, and the OR is small
-module _ (w : Way) (n : ℕ) (rows : List Row) (ten : length rows ≡ 10) where
+module _ (w : Way) (n : ℕ) (rows : List Row) (ten : length rows ≡ depth) where
   sound-order : soundSide w n rows ≡ true → n ≤ inOrder w rows
   sound-order s = best-order w n rows (omega (arith, side-few w n rows s, ten)) (side-rows w n rows s ten .best)
 
   sound-words : soundSide w n rows ≡ true → soundWords n rows ≡ true
   unfolding soundWords
   sound-words s =
-      join (leb (usedOf 10 rows) n) (ltb (lowsOf 10 rows) word32)
-      (le-leb (usedOf 10 rows) n (zero-used rows n 10 (λ j a b. ap zeroRow (unused-zero w n rows s ten j a b) ∙ zero)))
-      (lt-ltb (lowsOf 10 rows) word32 (bounded-lows rows 10 (λ j b. go j b (decLt j n))))
+      join (leb (usedOf depth rows) n) (ltb (lowsOf depth rows) word32)
+      (le-leb (usedOf depth rows) n (zero-used rows n depth (λ j a b. ap zeroRow (unused-zero w n rows s ten j a b) ∙ zero)))
+      (lt-ltb (lowsOf depth rows) word32 (bounded-lows rows depth (λ j b. go j b (decLt j n))))
     where
       zero : zeroRow noRow ≡ true
       zero = unfold zeroRow in refl
@@ -178,53 +179,53 @@ module _ (w : Way) (n : ℕ) (rows : List Row) (ten : length rows ≡ 10) where
       small : bounded noRow ≡ true
       small = unfold bounded in refl
 
-      go : (j : ℕ) → j < 10 → Dec (j < n) → bounded (getD rows j noRow) ≡ true
+      go : (j : ℕ) → j < depth → Dec (j < n) → bounded (getD rows j noRow) ≡ true
       go j b (yes t) = used-bounded w n rows s ten j t
       go j b (no t) = ap bounded (unused-zero w n rows s ten j (omega arith) b) ∙ small
 
   words-sound : n ≤ inOrder w rows → soundWords n rows ≡ true → soundSide w n rows ≡ true
   unfolding soundWords soundSide
   words-sound h e =
-      let p = both (leb (usedOf 10 rows) n) (ltb (lowsOf 10 rows) word32) e in
-      let few : n ≤ 10 = omega (arith, order-fits w rows, ten) in
-      join (leb n 10 && all zeroRow (drop n rows) && all bounded (take n rows)) (bestFirst w (take n rows))
-      (join (leb n 10 && all zeroRow (drop n rows)) (all bounded (take n rows))
-      (join (leb n 10) (all zeroRow (drop n rows)) (le-leb n 10 few)
+      let p = both (leb (usedOf depth rows) n) (ltb (lowsOf depth rows) word32) e in
+      let few : n ≤ depth = omega (arith, order-fits w rows, ten) in
+      join (leb n depth && all zeroRow (drop n rows) && all bounded (take n rows)) (bestFirst w (take n rows))
+      (join (leb n depth && all zeroRow (drop n rows)) (all bounded (take n rows))
+      (join (leb n depth) (all zeroRow (drop n rows)) (le-leb n depth few)
       (all-of zeroRow (drop n rows) noRow (λ i t.
-      let u : i < 10 - n = rw (length-drop, ten) at t in
-      ap zeroRow (getD-drop n rows i noRow) ∙ used-zero rows n 10 (leb-true (usedOf 10 rows) n (p .0)) (n + i) (omega arith) (omega arith))))
+      let u : i < depth - n = rw (length-drop, ten) at t in
+      ap zeroRow (getD-drop n rows i noRow) ∙ used-zero rows n depth (leb-true (usedOf depth rows) n (p .0)) (n + i) (omega arith) (omega arith))))
       (all-of bounded (take n rows) noRow (λ i t.
       let u : i < n = omega (arith, length-take-le n rows (omega (arith, ten))) in
-      ap bounded (getD-take n rows i noRow u) ∙ lows-bounded rows 10 (ltb-true (lowsOf 10 rows) word32 (p .1)) i (omega arith))))
+      ap bounded (getD-take n rows i noRow u) ∙ lows-bounded rows depth (ltb-true (lowsOf depth rows) word32 (p .1)) i (omega arith))))
       (order-best w n rows h)
 
 module _ (base : ℕ) (w : List ℕ) where
   -- a row's price is its first word
-  price-at : (i : ℕ) → i < 10 → getD (rowsFrom base w) i noRow .price ≡ getD w (base + 3 * i) 0
-  price-at i h = ap (λ (r : Row). r .price) (row-is base w i h) ∙ getD-drop (base + 3 * i) w 0 0 ∙ ap (λ (k : ℕ). getD w k 0) (add-zero (base + 3 * i))
+  price-at : (i : ℕ) → i < depth → getD (rowsFrom base w) i noRow .price ≡ getD w (base + rowWidth * i) 0
+  price-at i h = ap (λ (r : Row). r .price) (row-is base w i h) ∙ getD-drop (base + rowWidth * i) w 0 0 ∙ ap (λ (k : ℕ). getD w k 0) (add-zero (base + rowWidth * i))
 
   -- the rows from the i-th on are counted
   pub record Ordering (way : Way) (found i : ℕ) : Type 0 where
-    pub room : base + 30 ≤ length w
+    pub room : base + sideWidth ≤ length w
     pub under : i ≤ 9
     pub same : found ≡ i + inOrder way (drop i (rowsFrom base w))
 
-  pub order-starts : (way : Way) → base + 30 ≤ length w → Ordering way 10 9
+  pub order-starts : (way : Way) → base + sideWidth ≤ length w → Ordering way depth 9
   unfolding inOrder
   order-starts way h = record {
     room = h;
     under = omega arith;
-    same = rw (drop-cons (rowsFrom base w) 9 noRow (omega (arith, rows-ten base w)), drop-of-length-le (rowsFrom base w) {i = 10} (omega (arith, rows-ten base w)));
+    same = rw (drop-cons (rowsFrom base w) 9 noRow (omega (arith, rows-ten base w)), drop-of-length-le (rowsFrom base w) {i = depth} (omega (arith, rows-ten base w)));
   }
 
-  pub order-goes : (way : Way) (found i x : ℕ) (fine : Bool) → Ordering way found i → 0 < i → fine ≡ better way (getD w (base + 3 * i - 3) 0) (getD w (base + 3 * i) 0) → x ≡ cond fine found i
+  pub order-goes : (way : Way) (found i x : ℕ) (fine : Bool) → Ordering way found i → 0 < i → fine ≡ better way (getD w (base + rowWidth * i - 3) 0) (getD w (base + rowWidth * i) 0) → x ≡ cond fine found i
       → Ordering way x (i - 1)
   unfolding inOrder
   order-goes way found i x fine p h e q =
       let rows : List Row = rowsFrom base w in
       let j : ℕ = i - 1 in
       let up : suc j ≡ i = omega arith in
-      let back : base + 3 * i - 3 ≡ base + 3 * j = omega arith in
+      let back : base + rowWidth * i - rowWidth ≡ base + rowWidth * j = omega arith in
       let top : drop j rows ≡ getD rows j noRow ∷ drop i rows = drop-cons rows j noRow (omega (arith, rows-ten base w, p .under)) ∙ ap (λ (k : ℕ). getD rows j noRow ∷ drop k rows) up in
       let next : drop i rows ≡ getD rows i noRow ∷ drop (suc i) rows = drop-cons rows i noRow (omega (arith, rows-ten base w, p .under)) in
       let b : fine ≡ better way (getD rows j noRow .price) (getD rows i noRow .price) = e ∙ rw (back, price-at j (omega (arith, p .under)), price-at i (omega (arith, p .under))) in
@@ -242,16 +243,16 @@ module _ (base : ℕ) (w : List ℕ) where
 
   -- the first i rows are looked at
   pub record Looking (used lows i : ℕ) : Type 0 where
-    pub room : base + 30 ≤ length w
-    pub upto : i ≤ 10
+    pub room : base + sideWidth ≤ length w
+    pub upto : i ≤ depth
     pub far : used ≡ usedOf i (rowsFrom base w)
     pub low : lows ≡ lowsOf i (rowsFrom base w)
 
-  pub look-starts : base + 30 ≤ length w → Looking 0 0 0
+  pub look-starts : base + sideWidth ≤ length w → Looking 0 0 0
   unfolding usedOf lowsOf
   look-starts h = record { room = h; upto = omega arith; far = refl; low = refl }
 
-  pub look-goes : (used lows i x : ℕ) (r : Row) → Looking used lows i → i < 10 → r ≡ rowOf (drop (base + 3 * i) w)
+  pub look-goes : (used lows i x : ℕ) (r : Row) → Looking used lows i → i < depth → r ≡ rowOf (drop (base + rowWidth * i) w)
       → x ≡ cond (eqb (bitOr (bitOr (r .price) (r .orders)) (r .quantity)) 0) used (i + 1) → Looking x (bitOr lows (bitOr (r .price) (r .orders))) (i + 1)
   unfolding usedOf lowsOf
   look-goes used lows i x r p h e q =
@@ -263,20 +264,20 @@ module _ (base : ℕ) (w : List ℕ) where
         low = rw (add-one i) (λ k. bitOr (p .low k) (bitOr (s k .price) (s k .orders)));
       }
 
-  pub look-far : (used lows i n : ℕ) → Looking used lows i → 10 ≤ i → n < used → false ≡ soundWords n (rowsFrom base w)
+  pub look-far : (used lows i n : ℕ) → Looking used lows i → depth ≤ i → n < used → false ≡ soundWords n (rowsFrom base w)
   unfolding soundWords
   look-far used lows i n p h t =
-      let z : i ≡ 10 = omega (arith, p .upto) in
-      let f : used ≡ usedOf 10 (rowsFrom base w) = p .far ∙ ap (λ (k : ℕ). usedOf k (rowsFrom base w)) z in
-      rw (lt-leb (usedOf 10 (rowsFrom base w)) n (omega (arith, f)))
+      let z : i ≡ depth = omega (arith, p .upto) in
+      let f : used ≡ usedOf depth (rowsFrom base w) = p .far ∙ ap (λ (k : ℕ). usedOf k (rowsFrom base w)) z in
+      rw (lt-leb (usedOf depth (rowsFrom base w)) n (omega (arith, f)))
 
-  pub look-low : (used lows i n : ℕ) → Looking used lows i → 10 ≤ i → used ≤ n → ltb lows word32 ≡ soundWords n (rowsFrom base w)
+  pub look-low : (used lows i n : ℕ) → Looking used lows i → depth ≤ i → used ≤ n → ltb lows word32 ≡ soundWords n (rowsFrom base w)
   unfolding soundWords
   look-low used lows i n p h t =
-      let z : i ≡ 10 = omega (arith, p .upto) in
-      let f : used ≡ usedOf 10 (rowsFrom base w) = p .far ∙ ap (λ (k : ℕ). usedOf k (rowsFrom base w)) z in
-      let g : lows ≡ lowsOf 10 (rowsFrom base w) = p .low ∙ ap (λ (k : ℕ). lowsOf k (rowsFrom base w)) z in
-      rw (le-leb (usedOf 10 (rowsFrom base w)) n (omega (arith, f)), g)
+      let z : i ≡ depth = omega (arith, p .upto) in
+      let f : used ≡ usedOf depth (rowsFrom base w) = p .far ∙ ap (λ (k : ℕ). usedOf k (rowsFrom base w)) z in
+      let g : lows ≡ lowsOf depth (rowsFrom base w) = p .low ∙ ap (λ (k : ℕ). lowsOf k (rowsFrom base w)) z in
+      rw (le-leb (usedOf depth (rowsFrom base w)) n (omega (arith, f)), g)
 
   -- the two tests of a side
   pub side-unordered : (way : Way) (n o : ℕ) → o ≡ inOrder way (rowsFrom base w) → o < n → false ≡ soundSide way n (rowsFrom base w)
@@ -292,11 +293,11 @@ pub spare-used : (w : List ℕ) → (getD w 3 0 ≡ 0 → ⊥) → false ≡ sou
 unfolding sound
 spare-used w h = rw (ne-eqb (getD w 3 0) 0 h)
 
-pub bids-unsound : (w : List ℕ) (t : Bool) → getD w 3 0 ≡ 0 → t ≡ soundSide Bid (getD w 1 0) (rowsFrom 4 w) → t ≡ false → false ≡ sound w
+pub bids-unsound : (w : List ℕ) (t : Bool) → getD w 3 0 ≡ 0 → t ≡ soundSide Bid (getD w 1 0) (rowsFrom bidsAt w) → t ≡ false → false ≡ sound w
 unfolding sound
 bids-unsound w t z e n = rw (eq-eqb (getD w 3 0) 0 z, ← e, n)
 
-pub both-sides : (w : List ℕ) (t b : Bool) → getD w 3 0 ≡ 0 → t ≡ soundSide Bid (getD w 1 0) (rowsFrom 4 w) → t ≡ true → b ≡ soundSide Offer (getD w 2 0) (rowsFrom 34 w) → b ≡ sound w
+pub both-sides : (w : List ℕ) (t b : Bool) → getD w 3 0 ≡ 0 → t ≡ soundSide Bid (getD w 1 0) (rowsFrom bidsAt w) → t ≡ true → b ≡ soundSide Offer (getD w 2 0) (rowsFrom offersAt w) → b ≡ sound w
 unfolding sound
 both-sides w t b z e y q = rw (eq-eqb (getD w 3 0) 0 z, ← e, y) q
 

@@ -12,7 +12,7 @@ use Rattle.ground.specs.Choice.{pick, all}
 use Rattle.wire.specs.Number.{field, biased, bytesOnly, word32}
 use Rattle.ground.proofs.Bools.{both, join, split}
 use Rattle.wire.proofs.Fields.{field-below}
-use Rattle.ladder.specs.Message.{entryAt, entriesFrom, entries, listedRank}
+use Rattle.ladder.specs.Message.{depth, entrySize, entriesAt, entryAt, entriesFrom, entries, listedRank}
 use Rattle.ladder.specs.Sides.{better, noRow, rowAt, has, newFits, newRows, changeFits, changeRows, deleteFits, deleteRows, fits, rowsAfter, onSide}
 use Rattle.ladder.specs.Walk.{Book, emptyBook, withBids, withOffers, onBook, walk, bookAfter}
 use Rattle.ladder.specs.Words.{bestFirst, bounded}
@@ -51,9 +51,9 @@ module _ (w : Way) (s : List Row) (p : SoundRows w s) where
       let n : k ≤ length s + 1 = leb-true k (length s + 1) (u .0) in
       record {
         few = rw length-take (omega arith);
-        words = all-take bounded 10 (ins (k - 1) r s) (all-ins bounded (k - 1) r s b (p .words));
+        words = all-take bounded depth (ins (k - 1) r s) (all-ins bounded (k - 1) r s b (p .words));
         best =
-            best-take w 10 (ins (k - 1) r s)
+            best-take w depth (ins (k - 1) r s)
             (best-ins w (k - 1) r s (omega arith) (p .best)
             (λ q. or-not (leb 1 (k - 1) && leb (k - 1) (length s)) _ (join _ _ (le-leb 1 (k - 1) q) (le-leb (k - 1) (length s) (omega arith))) (u .1))
             (λ q. or-not (leb 1 k && leb k (length s)) _ (join _ _ (le-leb 1 k one) (le-leb k (length s) (omega arith))) (t .1)));
@@ -169,11 +169,11 @@ entry-bounded at s h =
 from-bounded : (n at : ℕ) (s : List ℕ) → T (bytesOnly s) → all boundedEntry (entriesFrom n at s) ≡ true
 unfolding all entriesFrom
 from-bounded zero at s h = refl
-from-bounded (suc n) at s h = join (boundedEntry (entryAt at s)) (all boundedEntry (entriesFrom n (at + 24) s)) (entry-bounded at s h) (from-bounded n (at + 24) s h)
+from-bounded (suc n) at s h = join (boundedEntry (entryAt at s)) (all boundedEntry (entriesFrom n (at + entrySize) s)) (entry-bounded at s h) (from-bounded n (at + entrySize) s h)
 
 -- all entries of a message of bytes are bounded
 pub entries-bounded : (m : List ℕ) → T (bytesOnly m) → all boundedEntry (entries m) ≡ true
-entries-bounded m h = from-bounded (field 11 1 m) 0 (drop 12 m) (bytes-drop 12 m h)
+entries-bounded m h = from-bounded (field 11 1 m) 0 (drop entriesAt m) (bytes-drop entriesAt m h)
 
 -- a message of bytes leaves a sound book sound
 pub book-sound : (time : ℕ) (m : List ℕ) (b b′ : Book) → T (bytesOnly m) → SoundBook b → bookAfter time m b ≡ some b′ → SoundBook b′

@@ -10,24 +10,25 @@ use borrow.Author.Needs.{needs}
 use Rattle.slots.specs.Slots.{blocks}
 use Rattle.slots.proofs.Blocks.{length-blocks, block-at}
 use Rattle.ladder.specs.Sides.{noRow}
-use Rattle.ladder.specs.Words.{rowOf, rowsFrom}
+use Rattle.ladder.specs.Words.{rowWidth, sideWidth, rowOf, rowsFrom}
 use Rattle.ladder.specs.declared.Row.{Row}
 use Rattle.ladder.proofs.Fills.{Filled, fill-none, fill-one, fill-all}
+use Rattle.ladder.specs.Message.{depth}
 
 -- there are ten rows
-pub rows-ten : (base : ℕ) (w : List ℕ) → length (rowsFrom base w) ≡ 10
+pub rows-ten : (base : ℕ) (w : List ℕ) → length (rowsFrom base w) ≡ depth
 unfolding rowsFrom
-rows-ten base w = length-map (blocks 3 10 (drop base w)) rowOf ∙ length-blocks 3 10 (drop base w)
+rows-ten base w = length-map (blocks rowWidth depth (drop base w)) rowOf ∙ length-blocks rowWidth depth (drop base w)
 
 -- row i is the row in the three words from base + 3 * i on
-pub row-is : (base : ℕ) (w : List ℕ) (i : ℕ) → i < 10 → getD (rowsFrom base w) i noRow ≡ rowOf (drop (base + 3 * i) w)
+pub row-is : (base : ℕ) (w : List ℕ) (i : ℕ) → i < depth → getD (rowsFrom base w) i noRow ≡ rowOf (drop (base + rowWidth * i) w)
 unfolding rowsFrom
 row-is base w i h =
-    List·getD-map rowOf (blocks 3 10 (drop base w)) i []
-    ∙ ap rowOf (block-at 3 10 i (drop base w) h ∙ ap (take 3) (drop-drop (3 * i) base w))
-    ∙ front (drop (base + 3 * i) w)
+    List·getD-map rowOf (blocks rowWidth depth (drop base w)) i []
+    ∙ ap rowOf (block-at rowWidth depth i (drop base w) h ∙ ap (take 3) (drop-drop (rowWidth * i) base w))
+    ∙ front (drop (base + rowWidth * i) w)
   where
-    front : (l : List ℕ) → rowOf (take 3 l) ≡ rowOf l
+    front : (l : List ℕ) → rowOf (take rowWidth l) ≡ rowOf l
     front [] = refl
     front (a ∷ []) = refl
     front (a ∷ b ∷ []) = refl
@@ -39,16 +40,16 @@ row-read at w = simp (getD-drop, add-zero)
 
 -- the first i rows are read
 pub record Loading (base : ℕ) (w : List ℕ) (rows : List Row) (i : ℕ) : Type 0 where
-  pub room : base + 30 ≤ length w
+  pub room : base + sideWidth ≤ length w
   pub filled : Filled (rowsFrom base w) rows i
 
-pub load-starts : (base : ℕ) (w : List ℕ) (r : Row) → base + 30 ≤ length w → Loading base w (r ∷ r ∷ r ∷ r ∷ r ∷ r ∷ r ∷ r ∷ r ∷ r ∷ []) 0
+pub load-starts : (base : ℕ) (w : List ℕ) (r : Row) → base + sideWidth ≤ length w → Loading base w (r ∷ r ∷ r ∷ r ∷ r ∷ r ∷ r ∷ r ∷ r ∷ r ∷ []) 0
 load-starts base w r h = record { room = h; filled = fill-none (rowsFrom base w) (r ∷ r ∷ r ∷ r ∷ r ∷ r ∷ r ∷ r ∷ r ∷ r ∷ []) (rows-ten base w) refl }
 
-pub load-goes : (base : ℕ) (w : List ℕ) (rows : List Row) (i m : ℕ) (r : Row) → Loading base w rows i → i < m → m ≤ 10 → r ≡ rowOf (drop (base + 3 * i) w) → Loading base w (set rows i r) (i + 1)
+pub load-goes : (base : ℕ) (w : List ℕ) (rows : List Row) (i m : ℕ) (r : Row) → Loading base w rows i → i < m → m ≤ depth → r ≡ rowOf (drop (base + rowWidth * i) w) → Loading base w (set rows i r) (i + 1)
 load-goes base w rows i m r p h k e = record { room = p .room; filled = fill-one (rowsFrom base w) rows i r (p .filled) (omega arith) (e ∙ sym (row-is base w i (omega arith))) }
 
-pub load-ends : (base : ℕ) (w : List ℕ) (rows : List Row) (i : ℕ) → Loading base w rows i → 10 ≤ i → rows ≡ rowsFrom base w
+pub load-ends : (base : ℕ) (w : List ℕ) (rows : List Row) (i : ℕ) → Loading base w rows i → depth ≤ i → rows ≡ rowsFrom base w
 load-ends base w rows i p h = fill-all (rowsFrom base w) rows i (p .filled) h
 
 pub ruleset loads = (needs, row-read, load-starts, load-goes, load-ends)

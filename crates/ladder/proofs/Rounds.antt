@@ -16,7 +16,7 @@ use Rattle.ground.specs.Choice.{all}
 use Rattle.ground.proofs.Bools.{both, join}
 use Rattle.ladder.specs.Sides.{noRow}
 use Rattle.ladder.specs.Walk.{Book}
-use Rattle.ladder.specs.Words.{bidCount, offerCount, spareWord, bidsAt, offersAt, rowOf, rowWords, rowsFrom, bookOf, pad, sideWords, wordsOf, zeroRow, soundSide, sound}
+use Rattle.ladder.specs.Words.{rowWidth, sideWidth, bookWidth, bidCount, offerCount, spareWord, bidsAt, offersAt, rowOf, rowWords, rowsFrom, bookOf, pad, sideWords, wordsOf, zeroRow, soundSide, sound}
 use Rattle.ladder.specs.Arrays.{Padded}
 use Rattle.ladder.specs.Loading.{SoundRows, SoundBook}
 use Rattle.ladder.specs.declared.Way.{Way}
@@ -25,6 +25,7 @@ use Rattle.ladder.specs.declared.Row.{Row}
 use Rattle.ladder.proofs.Pads.{length-pad, pad-behind, live-of, live-n}
 use Rattle.ladder.proofs.Writes.{side-words}
 use Rattle.ladder.proofs.Tells.{all-of, side-few, side-rows, spare-zero, sides-padded}
+use Rattle.ladder.specs.Message.{depth}
 
 -- a row is read back from its words
 again : (l : List Row) → map rowOf (map rowWords l) ≡ l
@@ -32,12 +33,12 @@ again [] = refl
 again (r ∷ l) = ap (λ (m : List Row). r ∷ m) (again l)
 
 -- ten rows at the front of some words
-rows-back : (s : List Row) (t : List ℕ) → map rowOf (blocks 3 10 (sideWords s ++ t)) ≡ pad s
+rows-back : (s : List Row) (t : List ℕ) → map rowOf (blocks rowWidth depth (sideWords s ++ t)) ≡ pad s
 unfolding sideWords
 rows-back s t =
     let l = pad s in
-    ap (λ (n : ℕ). map rowOf (blocks 3 n (flat (map rowWords l) ++ t))) (sym (length-pad s))
-    ∙ ap (map rowOf) (blocks-flat rowWords 3 (λ r. refl) l t) ∙ again l
+    ap (λ (n : ℕ). map rowOf (blocks rowWidth n (flat (map rowWords l) ++ t))) (sym (length-pad s))
+    ∙ ap (map rowOf) (blocks-flat rowWords rowWidth (λ r. refl) l t) ∙ again l
 
 module _ (c : ℕ) (b : Book) where
   -- the ten rows of a written book's bids
@@ -49,8 +50,8 @@ module _ (c : ℕ) (b : Book) where
   pub offers-back : rowsFrom offersAt (wordsOf c b) ≡ pad (b .offers)
   unfolding rowsFrom wordsOf
   offers-back =
-      ap (λ (w : List ℕ). map rowOf (blocks 3 10 w))
-      (drop-at (sideWords (b .bids)) (sideWords (b .offers)) 30 (side-words (b .bids)) ∙ sym (append-nil (sideWords (b .offers))))
+      ap (λ (w : List ℕ). map rowOf (blocks rowWidth depth w))
+      (drop-at (sideWords (b .bids)) (sideWords (b .offers)) sideWidth (side-words (b .bids)) ∙ sym (append-nil (sideWords (b .offers))))
       ∙ rows-back (b .offers) []
 
   -- its code
@@ -69,7 +70,7 @@ module _ (c : ℕ) (b : Book) where
   offer-count-back = refl
 
   -- a book of at most ten rows a side is read back from its words
-  pub book-back : length (b .bids) ≤ 10 → length (b .offers) ≤ 10 → bookOf (wordsOf c b) ≡ b
+  pub book-back : length (b .bids) ≤ depth → length (b .offers) ≤ depth → bookOf (wordsOf c b) ≡ b
   book-back h k = λ i. record {
     bids = ((λ j. take (bid-count-back j) (bids-back j)) ∙ live-of (b .bids) h) i;
     offers = ((λ j. take (offer-count-back j) (offers-back j)) ∙ live-of (b .offers) k) i;
@@ -89,29 +90,29 @@ words-back [] p = refl
 words-back (b ∷ bs) p = λ i. three b (p .0) i ∷ words-back bs (p .1) i
 
 -- a side read by value is written as it stood
-side-again : (base n : ℕ) (w : List ℕ) → base + 30 ≤ length w → Padded (record { n = n; rows = rowsFrom base w }) → sideWords (take n (rowsFrom base w)) ≡ take 30 (drop base w)
+side-again : (base n : ℕ) (w : List ℕ) → base + sideWidth ≤ length w → Padded (record { n = n; rows = rowsFrom base w }) → sideWords (take n (rowsFrom base w)) ≡ take sideWidth (drop base w)
 unfolding sideWords rowsFrom
 side-again base n w h p =
     let x : List ℕ = drop base w in
-    let room : 3 * 10 ≤ length x = rw length-drop (omega arith) in
-    let back : map rowWords (map rowOf (blocks 3 10 x)) ≡ blocks 3 10 x = words-back (blocks 3 10 x) (wide-blocks 3 10 x room) in
-    let j = ap length (bl.join 3 10 x) in
-    let len : length (flat (blocks 3 10 x)) ≡ 30 = omega (arith, simp (length-append, length-drop) at j) in
+    let room : rowWidth * depth ≤ length x = rw length-drop (omega arith) in
+    let back : map rowWords (map rowOf (blocks rowWidth depth x)) ≡ blocks rowWidth depth x = words-back (blocks rowWidth depth x) (wide-blocks rowWidth depth x room) in
+    let j = ap length (bl.join rowWidth depth x) in
+    let len : length (flat (blocks rowWidth depth x)) ≡ sideWidth = omega (arith, simp (length-append, length-drop) at j) in
     ap (λ (l : List Row). flat (map rowWords l)) (sym (p .zeros)) ∙ ap flat back
-    ∙ sym (take-at (flat (blocks 3 10 x)) (drop 30 x) 30 len) ∙ ap (take 30) (bl.join 3 10 x)
+    ∙ sym (take-at (flat (blocks rowWidth depth x)) (drop sideWidth x) sideWidth len) ∙ ap (take sideWidth) (bl.join rowWidth depth x)
 
 -- sixty-four words: four, thirty and thirty
-parts : (w : List ℕ) → length w ≡ 64 → codeOf w ∷ bidCount w ∷ offerCount w ∷ spareWord w ∷ (take 30 (drop 4 w) ++ take 30 (drop 34 w)) ≡ w
+parts : (w : List ℕ) → length w ≡ bookWidth → codeOf w ∷ bidCount w ∷ offerCount w ∷ spareWord w ∷ (take sideWidth (drop bidsAt w) ++ take sideWidth (drop offersAt w)) ≡ w
 parts [] e = absurd (omega arith)
 parts (x ∷ []) e = absurd (omega arith)
 parts (x ∷ y ∷ []) e = absurd (omega arith)
 parts (x ∷ y ∷ z ∷ []) e = absurd (omega arith)
 parts (x ∷ y ∷ z ∷ v ∷ l) e =
     ap (λ (m : List ℕ). x ∷ y ∷ z ∷ v ∷ m)
-    (ap (λ (m : List ℕ). take 30 l ++ m) (take-all 30 (drop 30 l) (rw length-drop (omega arith))) ∙ take-append-drop 30 l)
+    (ap (λ (m : List ℕ). take sideWidth l ++ m) (take-all sideWidth (drop sideWidth l) (rw length-drop (omega arith))) ∙ take-append-drop sideWidth l)
 
 -- a sound block is the words of its book
-pub block-again : (w : List ℕ) → length w ≡ 64 → sound w ≡ true → wordsOf (codeOf w) (bookOf w) ≡ w
+pub block-again : (w : List ℕ) → length w ≡ bookWidth → sound w ≡ true → wordsOf (codeOf w) (bookOf w) ≡ w
 unfolding wordsOf
 block-again w h s =
     let b = sides-padded w s .bids in
@@ -124,7 +125,7 @@ block-again w h s =
 rows-sound : (w : Way) (s : List Row) → SoundRows w s → soundSide w (length s) (pad s) ≡ true
 unfolding soundSide
 rows-sound w s p =
-    rw (live-of s (p .few), le-leb (length s) 10 (p .few), p .words, p .best, zeros)
+    rw (live-of s (p .few), le-leb (length s) depth (p .few), p .words, p .best, zeros)
   where
     zero : zeroRow noRow ≡ true
     zero = unfold zeroRow in refl
@@ -132,7 +133,7 @@ rows-sound w s p =
     zeros : all zeroRow (drop (length s) (pad s)) ≡ true
     zeros =
         all-of zeroRow (drop (length s) (pad s)) noRow (λ i h.
-        let t : i < 10 - length s = rw (length-drop, length-pad) at h in
+        let t : i < depth - length s = rw (length-drop, length-pad) at h in
         ap zeroRow (getD-drop (length s) (pad s) i noRow ∙ pad-behind s (length s + i) (omega arith) (omega arith)) ∙ zero)
 
 -- ten rows that are sound are sound by value

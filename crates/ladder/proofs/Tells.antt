@@ -21,6 +21,7 @@ use Rattle.ladder.specs.declared.Way.the-variants.{Bid, Offer}
 use Rattle.ladder.specs.declared.Row.{Row}
 use Rattle.ladder.proofs.Pads.{length-pad, pad-behind}
 use Rattle.ladder.proofs.Loads.{rows-ten}
+use Rattle.ladder.specs.Message.{depth}
 
 -- a test that passes at every element passes at the i-th
 pub all-at : {A : Type 0} (f : A → Bool) (l : List A) (i : ℕ) (d : A) → all f l ≡ true → i < length l → f (getD l i d) ≡ true
@@ -52,21 +53,21 @@ bounded-is r e =
 
 -- the four parts of a sound side
 module _ (w : Way) (n : ℕ) (rows : List Row) (s : soundSide w n rows ≡ true) where
-  sound-parts : (leb n 10 ≡ true) × (all zeroRow (drop n rows) ≡ true) × (all bounded (take n rows) ≡ true) × (bestFirst w (take n rows) ≡ true)
+  sound-parts : (leb n depth ≡ true) × (all zeroRow (drop n rows) ≡ true) × (all bounded (take n rows) ≡ true) × (bestFirst w (take n rows) ≡ true)
   unfolding soundSide
   sound-parts =
-      let p = both (leb n 10 && all zeroRow (drop n rows) && all bounded (take n rows)) (bestFirst w (take n rows)) s in
-      let q = both (leb n 10 && all zeroRow (drop n rows)) (all bounded (take n rows)) (p .0) in
-      let r = both (leb n 10) (all zeroRow (drop n rows)) (q .0) in
+      let p = both (leb n depth && all zeroRow (drop n rows) && all bounded (take n rows)) (bestFirst w (take n rows)) s in
+      let q = both (leb n depth && all zeroRow (drop n rows)) (all bounded (take n rows)) (p .0) in
+      let r = both (leb n depth) (all zeroRow (drop n rows)) (q .0) in
       (r .0, r .1, q .1, p .1)
 
   -- at most ten rows are used
-  pub side-few : n ≤ 10
-  side-few = leb-true n 10 (sound-parts .0)
+  pub side-few : n ≤ depth
+  side-few = leb-true n depth (sound-parts .0)
 
-  module _ (ten : length rows ≡ 10) where
+  module _ (ten : length rows ≡ depth) where
     -- an unused row is the zero row
-    pub unused-zero : (i : ℕ) → n ≤ i → i < 10 → getD rows i noRow ≡ noRow
+    pub unused-zero : (i : ℕ) → n ≤ i → i < depth → getD rows i noRow ≡ noRow
     unused-zero i h t =
         let e : n + (i - n) ≡ i = omega arith in
         ap (λ (k : ℕ). getD rows k noRow) (sym e) ∙ sym (getD-drop n rows (i - n) noRow)
@@ -85,9 +86,9 @@ module _ (w : Way) (n : ℕ) (rows : List Row) (s : soundSide w n rows ≡ true)
         long : length (take n rows) ≡ n
         long = length-take-le n rows (omega (arith, side-few))
 
-        go : (i : ℕ) → i < 10 → Dec (i < n) → getD rows i noRow ≡ getD (pad (take n rows)) i noRow
+        go : (i : ℕ) → i < depth → Dec (i < n) → getD rows i noRow ≡ getD (pad (take n rows)) i noRow
         go i h (yes t) =
-            sym (getD-take 10 (take n rows ++ noRows) i noRow h ∙ List·getD-append (take n rows) noRows noRow i (omega (arith, long)) ∙ getD-take n rows i noRow t)
+            sym (getD-take depth (take n rows ++ noRows) i noRow h ∙ List·getD-append (take n rows) noRows noRow i (omega (arith, long)) ∙ getD-take n rows i noRow t)
         go i h (no t) = unused-zero i (omega arith) h ∙ sym (pad-behind (take n rows) i (omega (arith, long)) h)
 
     -- and its rows are sound by value
@@ -109,11 +110,11 @@ module _ (w : List ℕ) (y : sound w ≡ true) where
   spare-zero = eqb-true (spareWord w) 0 (book-parts .0)
 
   -- the bid count is at most ten
-  pub few-bids : bidCount w ≤ 10
+  pub few-bids : bidCount w ≤ depth
   few-bids = side-few Bid (bidCount w) (rowsFrom bidsAt w) (book-parts .1)
 
   -- the offer count is at most ten
-  pub few-offers : offerCount w ≤ 10
+  pub few-offers : offerCount w ≤ depth
   few-offers = side-few Offer (offerCount w) (rowsFrom offersAt w) (book-parts .2)
 
   -- its sides read by value can be walked on

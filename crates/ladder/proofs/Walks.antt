@@ -13,12 +13,12 @@ use borrow.Author.Tests.{le-leb, lt-leb, eq-eqb, ne-eqb}
 use Rattle.ground.specs.Choice.{oneOf, pick, all}
 use Rattle.wire.specs.Number.{field, biased}
 use Rattle.ground.proofs.Bools.{cond-same, split}
-use Rattle.ladder.specs.Message.{entryOf, entryAt, entriesFrom, listedEntry, listedSide, listedRank}
+use Rattle.ladder.specs.Message.{depth, entrySize, entryOf, entryAt, entriesFrom, listedEntry, listedSide, listedRank}
 use Rattle.ladder.specs.Sides.{noRow, newRows, changeRows, deleteRows, fits, rowsAfter, onSide}
 use Rattle.ladder.specs.Walk.{Book, emptyBook, withBids, withOffers, onBook, walk}
 use Rattle.ladder.specs.Arrays.{Side, live, Padded, sideAt, bookIn, Sides, emptyRows, emptyCounts, wayOf, fitsAt, tenAfter, countAfter}
 use Rattle.ladder.specs.Loading.{met, settled}
-use Rattle.ladder.specs.Words.{noRows, wordsOf}
+use Rattle.ladder.specs.Words.{bookWidth, noRows, wordsOf}
 use Rattle.ladder.specs.declared.Way.{Way}
 use Rattle.ladder.specs.declared.Way.the-variants.{Bid, Offer}
 use Rattle.ladder.specs.declared.Row.{Row}
@@ -72,26 +72,26 @@ pub unlisted-zero : (e : Entry) → (e .action ≡ 74 → ⊥) → e .action ≤
 unfolding listedEntry listedRank
 unlisted-zero e z a b c = rw (ne-eqb (e .action) 74 z, action-known (e .action) a, side-known (e .side) b, lt-leb 1 (e .level) c)
 
-pub listed-rest : (e : Entry) → (e .action ≡ 74 → ⊥) → e .action ≤ 2 → e .side ≤ 1 → 1 ≤ e .level → leb (e .level) 10 ≡ listedEntry e
+pub listed-rest : (e : Entry) → (e .action ≡ 74 → ⊥) → e .action ≤ 2 → e .side ≤ 1 → 1 ≤ e .level → leb (e .level) depth ≡ listedEntry e
 unfolding listedEntry listedRank
 listed-rest e z a b c = rw (ne-eqb (e .action) 74 z, action-known (e .action) a, side-known (e .side) b, le-leb 1 (e .level) c)
 
 -- the entries from the i-th on
 pub rest : ℕ → ℕ → List ℕ → List Entry
-rest n i s = entriesFrom (n - i) (24 * i) s
+rest n i s = entriesFrom (n - i) (entrySize * i) s
 
 rest-none : (n i : ℕ) (s : List ℕ) → n ≤ i → rest n i s ≡ []
 unfolding rest entriesFrom
 rest-none n i s h =
     let e : n - i ≡ 0 = omega arith in
-    ap (λ (k : ℕ). entriesFrom k (24 * i) s) e
+    ap (λ (k : ℕ). entriesFrom k (entrySize * i) s) e
 
-rest-more : (n i : ℕ) (s : List ℕ) → i < n → rest n i s ≡ entryAt (24 * i) s ∷ rest n (i + 1) s
+rest-more : (n i : ℕ) (s : List ℕ) → i < n → rest n i s ≡ entryAt (entrySize * i) s ∷ rest n (i + 1) s
 unfolding rest entriesFrom
 rest-more n i s h =
     let e : n - i ≡ suc (n - (i + 1)) = omega arith in
-    let t : 24 * i + 24 ≡ 24 * (i + 1) = omega arith in
-    ap (λ (k : ℕ). entriesFrom k (24 * i) s) e ∙ ap (λ (a : ℕ). entryAt (24 * i) s ∷ entriesFrom (n - (i + 1)) a s) t
+    let t : entrySize * i + entrySize ≡ entrySize * (i + 1) = omega arith in
+    ap (λ (k : ℕ). entriesFrom k (entrySize * i) s) e ∙ ap (λ (a : ℕ). entryAt (entrySize * i) s ∷ entriesFrom (n - (i + 1)) a s) t
 
 rest-all : (n : ℕ) (s : List ℕ) → rest n 0 s ≡ entriesFrom n 0 s
 unfolding rest
@@ -102,22 +102,22 @@ rest-all n s =
 -- all entries before the i-th are listed
 pub record Listing (n : ℕ) (s : List ℕ) (i : ℕ) : Type 0 where
   pub upto : i ≤ n
-  pub room : 24 * n ≤ length s
+  pub room : entrySize * n ≤ length s
   pub same : all listedEntry (rest n i s) ≡ all listedEntry (entriesFrom n 0 s)
 
-pub list-starts : (n : ℕ) (s : List ℕ) → 24 * n ≤ length s → Listing n s 0
+pub list-starts : (n : ℕ) (s : List ℕ) → entrySize * n ≤ length s → Listing n s 0
 list-starts n s h = record { upto = omega arith; room = h; same = ap (all listedEntry) (rest-all n s) }
 
-pub list-goes : (n : ℕ) (s : List ℕ) (i : ℕ) (e : Entry) (b : Bool) → Listing n s i → i < n → e ≡ entryAt (24 * i) s → b ≡ listedEntry e → b ≡ true → Listing n s (i + 1)
+pub list-goes : (n : ℕ) (s : List ℕ) (i : ℕ) (e : Entry) (b : Bool) → Listing n s i → i < n → e ≡ entryAt (entrySize * i) s → b ≡ listedEntry e → b ≡ true → Listing n s (i + 1)
 unfolding all
 list-goes n s i e b p h q t y =
-    let yes : listedEntry (entryAt (24 * i) s) ≡ true = ap listedEntry (sym q) ∙ sym t ∙ y in
+    let yes : listedEntry (entryAt (entrySize * i) s) ≡ true = ap listedEntry (sym q) ∙ sym t ∙ y in
     record { upto = omega arith; room = p .room; same = sym (ap (all listedEntry) (rest-more n i s h) ∙ rw yes) ∙ p .same }
 
-pub list-stops : (n : ℕ) (s : List ℕ) (i : ℕ) (e : Entry) (b : Bool) → Listing n s i → i < n → e ≡ entryAt (24 * i) s → b ≡ listedEntry e → b ≡ false → false ≡ all listedEntry (entriesFrom n 0 s)
+pub list-stops : (n : ℕ) (s : List ℕ) (i : ℕ) (e : Entry) (b : Bool) → Listing n s i → i < n → e ≡ entryAt (entrySize * i) s → b ≡ listedEntry e → b ≡ false → false ≡ all listedEntry (entriesFrom n 0 s)
 unfolding all
 list-stops n s i e b p h q t y =
-    let no : listedEntry (entryAt (24 * i) s) ≡ false = ap listedEntry (sym q) ∙ sym t ∙ y in
+    let no : listedEntry (entryAt (entrySize * i) s) ≡ false = ap listedEntry (sym q) ∙ sym t ∙ y in
     sym (sym (p .same) ∙ ap (all listedEntry) (rest-more n i s h) ∙ rw no)
 
 pub list-ends : (n : ℕ) (s : List ℕ) (i : ℕ) → Listing n s i → n ≤ i → true ≡ all listedEntry (entriesFrom n 0 s)
@@ -127,12 +127,12 @@ list-ends n s i p h = sym (ap (all listedEntry) (rest-none n i s h)) ∙ p .same
 pub ruleset listing = (needs, entry-made, entry-read, listed-clear, unlisted-action, unlisted-side, unlisted-zero, listed-rest, list-starts, list-goes, list-stops, list-ends)
 
 -- at most ten rows stay at most ten
-pub after-few : (e : Entry) (s : List Row) → length s ≤ 10 → length (rowsAfter e s) ≤ 10
+pub after-few : (e : Entry) (s : List Row) → length s ≤ depth → length (rowsAfter e s) ≤ depth
 unfolding rowsAfter pick newRows changeRows deleteRows
 after-few e s h =
-    let P : List Row → Type 0 = λ l. length l ≤ 10 in
+    let P : List Row → Type 0 = λ l. length l ≤ depth in
     split P (eqb (e .action) 0) _ _
-    (λ a. rw (length-take 10 (take (e .level - 1) s ++ (e .row ∷ drop (e .level - 1) s))) (omega arith))
+    (λ a. rw (length-take depth (take (e .level - 1) s ++ (e .row ∷ drop (e .level - 1) s))) (omega arith))
     (λ a. split P (eqb (e .action) 1) _ _
     (λ b. rw (length-set s (e .level - 1) (record { price = getD s (e .level - 1) noRow .price; quantity = e .row .quantity; orders = e .row .orders })) h)
     (λ b. split P (eqb (e .action) 2) _ _
@@ -204,14 +204,14 @@ side-padded rows counts (suc (suc k)) p h = absurd (omega arith)
 -- what is left of the walk from the i-th entry on comes to what all of it does, and the words stay until then
 pub record Walking (time : ℕ) (s : List ℕ) (n : ℕ) (w₀ : List ℕ) (rows₀ : List (List Row)) (counts₀ w : List ℕ) (rows : List (List Row)) (counts : List ℕ) (i : ℕ) : Type 0 where
   pub upto : i ≤ n
-  pub room : 24 * n ≤ length s
-  pub long : length w ≡ 64
+  pub room : entrySize * n ≤ length s
+  pub long : length w ≡ bookWidth
   pub stays : w ≡ w₀
   pub two : (length rows ≡ 2) × (length counts ≡ 2)
   pub sides : Sides rows counts
   pub same : walk time (rest n i s) (bookIn rows counts) ≡ walk time (entriesFrom n 0 s) (bookIn rows₀ counts₀)
 
-pub walk-starts : (time : ℕ) (s : List ℕ) (n : ℕ) (w : List ℕ) (rows : List (List Row)) (counts : List ℕ) → (length w ≡ 64) × Sides rows counts × (24 * n ≤ length s)
+pub walk-starts : (time : ℕ) (s : List ℕ) (n : ℕ) (w : List ℕ) (rows : List (List Row)) (counts : List ℕ) → (length w ≡ bookWidth) × Sides rows counts × (entrySize * n ≤ length s)
     → length rows ≡ 2 → length counts ≡ 2 → Walking time s n w rows counts w rows counts 0
 walk-starts time s n w rows counts p r c = record {
   upto = omega arith;
@@ -231,14 +231,14 @@ walk-ends time s n c w₀ rows₀ counts₀ w u rows counts i p h e =
     rw (f, e)
 
 -- the test on numbers told whether the entry fits its side
-pub fits-told : (rows : List (List Row)) (counts : List ℕ) (e : Entry) (way : Way) (t f : Bool) (up : ℕ) → Sides rows counts → e .side ≤ 1 → 1 ≤ e .level → e .level ≤ 10 → way ≡ wayOf (e .side) → up ≡ e .level - 2
+pub fits-told : (rows : List (List Row)) (counts : List ℕ) (e : Entry) (way : Way) (t f : Bool) (up : ℕ) → Sides rows counts → e .side ≤ 1 → 1 ≤ e .level → e .level ≤ depth → way ≡ wayOf (e .side) → up ≡ e .level - 2
     → f ≡ fitsAt way (e .action) (getD counts (e .side) 0) (e .level) (getD (getD rows (e .side) []) up noRow .price) (getD (getD rows (e .side) []) (e .level - 1) noRow .price) (e .row .price) → f ≡ t
     → fits (wayOf (e .side)) e (live (sideAt (e .side) rows counts)) ≡ t
 fits-told rows counts e way t f up p k a b y u q r =
     fits-is (wayOf (e .side)) (sideAt (e .side) rows counts) e (side-padded rows counts (e .side) p k) a b ∙ rw (← u, ← y) (sym q ∙ r)
 
 module _ (time : ℕ) (s : List ℕ) (n : ℕ) (w₀ : List ℕ) (rows₀ : List (List Row)) (counts₀ w : List ℕ) (rows : List (List Row)) (counts : List ℕ) (i : ℕ)
-    (p : Walking time s n w₀ rows₀ counts₀ w rows counts i) (h : i < n) (e : Entry) (q : e ≡ entryAt (24 * i) s) where
+    (p : Walking time s n w₀ rows₀ counts₀ w rows counts i) (h : i < n) (e : Entry) (q : e ≡ entryAt (entrySize * i) s) where
   one-more : bind (onBook time e (bookIn rows counts)) (walk time (rest n (i + 1) s)) ≡ walk time (entriesFrom n 0 s) (bookIn rows₀ counts₀)
   unfolding walk
   one-more = rw q (sym (ap (λ (es : List Entry). walk time es (bookIn rows counts)) (rest-more n i s h)) ∙ p .same)
@@ -263,13 +263,13 @@ module _ (time : ℕ) (s : List ℕ) (n : ℕ) (w₀ : List ℕ) (rows₀ : List
       let l : List Row = rowsAfter e (live side) in
       let pad = side-padded rows counts (e .side) (p .sides) d in
       let few = after-few e (live side) (omega (arith, live-n side pad, pad .few)) in
-      let tx : x ≡ take 10 (l ++ noRows) = ex ∙ ten-after (wayOf (e .side)) side e pad f in
+      let tx : x ≡ take depth (l ++ noRows) = ex ∙ ten-after (wayOf (e .side)) side e pad f in
       let tm : m ≡ length l = em ∙ count-is (wayOf (e .side)) side e pad f in
       goes (set rows (e .side) x) (set counts (e .side) m) (length-set rows (e .side) x ∙ p .two .0, length-set counts (e .side) m ∙ p .two .1)
       (set-sides rows counts (p .two) (e .side) x m d (p .sides) (rw (tx, tm) (padded-of l few)))
       (on-side rows counts (p .two) time e (e .side) x m a refl d f (rw (tx, tm) (live-of l few)))
 
-  pub count-few : e .side ≤ 1 → getD counts (e .side) 0 ≤ 10
+  pub count-few : e .side ≤ 1 → getD counts (e .side) 0 ≤ depth
   count-few d = side-padded rows counts (e .side) (p .sides) d .few
 
   pub count-one : e .side ≤ 1 → fits (wayOf (e .side)) e (live (sideAt (e .side) rows counts)) ≡ true → (eqb (e .action) 0 || leb 1 (getD counts (e .side) 0)) ≡ true
@@ -279,9 +279,9 @@ module _ (time : ℕ) (s : List ℕ) (n : ℕ) (w₀ : List ℕ) (rows₀ : List
   unfolding listedRank
   stop-zero c a l = stops c (no-rank time e (bookIn rows counts) a (rw (lt-leb 1 (e .level) l)))
 
-  pub stop-eleven : (c : ℕ) → (e .action ≡ 74 → ⊥) → 1 ≤ e .level → 10 < e .level → met 16 w ≡ settled c (walk time (entriesFrom n 0 s) (bookIn rows₀ counts₀)) w₀
+  pub stop-eleven : (c : ℕ) → (e .action ≡ 74 → ⊥) → 1 ≤ e .level → depth < e .level → met 16 w ≡ settled c (walk time (entriesFrom n 0 s) (bookIn rows₀ counts₀)) w₀
   unfolding listedRank
-  stop-eleven c a l u = stops c (no-rank time e (bookIn rows counts) a (rw (le-leb 1 (e .level) l, lt-leb (e .level) 10 u)))
+  stop-eleven c a l u = stops c (no-rank time e (bookIn rows counts) a (rw (le-leb 1 (e .level) l, lt-leb (e .level) depth u)))
 
   pub stop-side : (c : ℕ) → (e .action ≡ 74 → ⊥) → 1 < e .side → met 16 w ≡ settled c (walk time (entriesFrom n 0 s) (bookIn rows₀ counts₀)) w₀
   stop-side c a d = stops c (no-side time e (bookIn rows counts) a d)
@@ -294,7 +294,7 @@ pub ruleset walking = (needs, walk-starts, walk-ends, walk-clear, walk-side, cou
 
 -- at most ten rows a side, of a book and of what may be a book
 abbrev pub Few : Book → Type 0
-Few b = (length (b .bids) ≤ 10) × (length (b .offers) ≤ 10)
+Few b = (length (b .bids) ≤ depth) × (length (b .offers) ≤ depth)
 
 abbrev FewIn : Option Book → Type 0
 FewIn none = Unit {0}

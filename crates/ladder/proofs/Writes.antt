@@ -11,72 +11,73 @@ use Rattle.slots.specs.Slots.{flat, overlay}
 use Rattle.slots.proofs.Overlay.{length-overlay, length-flat, sets-overlay, overlay-nil, overlay-join, overlay-whole, overlay-more}
 use Rattle.ladder.specs.Sides.{noRow}
 use Rattle.ladder.specs.Walk.{Book}
-use Rattle.ladder.specs.Words.{rowWords, pad, sideWords, wordsOf}
+use Rattle.ladder.specs.Words.{rowWidth, sideWidth, bookWidth, bidsAt, offersAt, rowWords, pad, sideWords, wordsOf}
 use Rattle.ladder.specs.Arrays.{Side, live, sideAt, bookIn, Sides}
 use Rattle.ladder.specs.declared.Row.{Row}
 use Rattle.ladder.proofs.Pads.{length-pad, live-n}
+use Rattle.ladder.specs.Message.{depth}
 
 -- a side is thirty words
-pub side-words : (s : List Row) → length (sideWords s) ≡ 30
+pub side-words : (s : List Row) → length (sideWords s) ≡ sideWidth
 unfolding sideWords
-side-words s = length-flat rowWords 3 (λ r. refl) (pad s) ∙ ap (λ (n : ℕ). 3 * n) (length-pad s)
+side-words s = length-flat rowWords rowWidth (λ r. refl) (pad s) ∙ ap (λ (n : ℕ). rowWidth * n) (length-pad s)
 
 -- a book is sixty-four words
-pub book-words : (c : ℕ) (b : Book) → length (wordsOf c b) ≡ 64
+pub book-words : (c : ℕ) (b : Book) → length (wordsOf c b) ≡ bookWidth
 unfolding wordsOf
 book-words c b = simp (length-append, side-words)
 
 -- a row written word by word
-pub row-second : (t : List ℕ) (at v : ℕ) → at + 3 ≤ length t → at + 1 < length (set t at v)
+pub row-second : (t : List ℕ) (at v : ℕ) → at + rowWidth ≤ length t → at + 1 < length (set t at v)
 row-second t at v h = rw length-set (omega arith)
 
-pub row-third : (t : List ℕ) (at v u : ℕ) → at + 3 ≤ length t → at + 2 < length (set (set t at v) (at + 1) u)
+pub row-third : (t : List ℕ) (at v u : ℕ) → at + rowWidth ≤ length t → at + 2 < length (set (set t at v) (at + 1) u)
 row-third t at v u h = rw (length-set, length-set) (omega arith)
 
-pub row-written : (t : List ℕ) (at p q o : ℕ) → at + 3 ≤ length t → set (set (set t at p) (at + 1) q) (at + 2) o ≡ overlay at (p ∷ q ∷ o ∷ []) t
+pub row-written : (t : List ℕ) (at p q o : ℕ) → at + rowWidth ≤ length t → set (set (set t at p) (at + 1) q) (at + 2) o ≡ overlay at (p ∷ q ∷ o ∷ []) t
 row-written t at p q o h = rw (add-one, add-two) (sets-overlay t at (p ∷ q ∷ o ∷ []) h)
 
 -- the first i of ten rows are written
 pub record Writing (base : ℕ) (rows : List Row) (t₀ t : List ℕ) (i : ℕ) : Type 0 where
-  pub upto : i ≤ 10
-  pub ten : length rows ≡ 10
-  pub room : base + 30 ≤ length t₀
+  pub upto : i ≤ depth
+  pub ten : length rows ≡ depth
+  pub room : base + sideWidth ≤ length t₀
   pub same : length t ≡ length t₀
   pub so-far : t ≡ overlay base (flat (map rowWords (take i rows))) t₀
 
-pub write-starts : (base : ℕ) (rows : List Row) (t : List ℕ) → length rows ≡ 10 → base + 30 ≤ length t → Writing base rows t t 0
+pub write-starts : (base : ℕ) (rows : List Row) (t : List ℕ) → length rows ≡ depth → base + sideWidth ≤ length t → Writing base rows t t 0
 unfolding flat
 write-starts base rows t n h = record { upto = omega arith; ten = n; room = h; same = refl; so-far = sym (overlay-nil base t) }
 
-pub write-room : (base : ℕ) (rows : List Row) (t₀ t : List ℕ) (i : ℕ) → Writing base rows t₀ t i → i < 10 → base + 3 * i + 3 ≤ length t
+pub write-room : (base : ℕ) (rows : List Row) (t₀ t : List ℕ) (i : ℕ) → Writing base rows t₀ t i → i < depth → base + rowWidth * i + rowWidth ≤ length t
 write-room base rows t₀ t i p h = omega (arith, p .room, p .same)
 
-pub write-goes : (base : ℕ) (rows : List Row) (t₀ t u : List ℕ) (i : ℕ) → Writing base rows t₀ t i → i < 10 → u ≡ overlay (base + 3 * i) (rowWords (getD rows i noRow)) t → Writing base rows t₀ u (i + 1)
+pub write-goes : (base : ℕ) (rows : List Row) (t₀ t u : List ℕ) (i : ℕ) → Writing base rows t₀ t i → i < depth → u ≡ overlay (base + rowWidth * i) (rowWords (getD rows i noRow)) t → Writing base rows t₀ u (i + 1)
 write-goes base rows t₀ t u i p h e = record {
   upto = omega arith;
   ten = p .ten;
   room = p .room;
-  same = ap length e ∙ length-overlay (base + 3 * i) (rowWords (getD rows i noRow)) t (omega (arith, p .room, p .same)) ∙ p .same;
+  same = ap length e ∙ length-overlay (base + rowWidth * i) (rowWords (getD rows i noRow)) t (omega (arith, p .room, p .same)) ∙ p .same;
   so-far =
-      e ∙ ap (overlay (base + 3 * i) (rowWords (getD rows i noRow))) (p .so-far)
-      ∙ overlay-more rowWords 3 (λ r. refl) rows i noRow base t₀ (omega (arith, p .ten)) (omega (arith, p .room));
+      e ∙ ap (overlay (base + rowWidth * i) (rowWords (getD rows i noRow))) (p .so-far)
+      ∙ overlay-more rowWords rowWidth (λ r. refl) rows i noRow base t₀ (omega (arith, p .ten)) (omega (arith, p .room));
 }
 
-pub write-ends : (base : ℕ) (rows : List Row) (t₀ t : List ℕ) (i : ℕ) → Writing base rows t₀ t i → 10 ≤ i → t ≡ overlay base (flat (map rowWords rows)) t₀
+pub write-ends : (base : ℕ) (rows : List Row) (t₀ t : List ℕ) (i : ℕ) → Writing base rows t₀ t i → depth ≤ i → t ≡ overlay base (flat (map rowWords rows)) t₀
 write-ends base rows t₀ t i p h = p .so-far ∙ ap (λ (l : List Row). overlay base (flat (map rowWords l)) t₀) (take-all i rows (omega (arith, p .ten)))
 
 -- the four words of the head, then the bids, then the offers, whatever stood there
-pub head-room : (t : List ℕ) (c m n z : ℕ) → length t ≡ 64 → 4 + 30 ≤ length (set (set (set (set t 0 c) 1 m) 2 n) 3 z)
+pub head-room : (t : List ℕ) (c m n z : ℕ) → length t ≡ bookWidth → bidsAt + sideWidth ≤ length (set (set (set (set t 0 c) 1 m) 2 n) 3 z)
 head-room t c m n z h = simp length-set (omega arith)
 
-pub side-room : (t u : List ℕ) (c m n z : ℕ) → length t ≡ 64 → length u ≡ length (set (set (set (set t 0 c) 1 m) 2 n) 3 z) → 34 + 30 ≤ length u
+pub side-room : (t u : List ℕ) (c m n z : ℕ) → length t ≡ bookWidth → length u ≡ length (set (set (set (set t 0 c) 1 m) 2 n) 3 z) → offersAt + sideWidth ≤ length u
 side-room t u c m n z h e = rw e (simp length-set (omega arith))
 
 pub book-long : (t u v : List ℕ) (c m n z : ℕ) → length u ≡ length (set (set (set (set t 0 c) 1 m) 2 n) 3 z) → length v ≡ length u → length v ≡ length t
 book-long t u v c m n z e f = f ∙ e ∙ simp length-set
 
-pub book-written : (t u v : List ℕ) (c : ℕ) (rows : List (List Row)) (counts : List ℕ) → (length t ≡ 64) × Sides rows counts
-    → u ≡ overlay 4 (flat (map rowWords (getD rows 0 []))) (set (set (set (set t 0 c) 1 (getD counts 0 0)) 2 (getD counts 1 0)) 3 0) → v ≡ overlay 34 (flat (map rowWords (getD rows 1 []))) u
+pub book-written : (t u v : List ℕ) (c : ℕ) (rows : List (List Row)) (counts : List ℕ) → (length t ≡ bookWidth) × Sides rows counts
+    → u ≡ overlay bidsAt (flat (map rowWords (getD rows 0 []))) (set (set (set (set t 0 c) 1 (getD counts 0 0)) 2 (getD counts 1 0)) 3 0) → v ≡ overlay offersAt (flat (map rowWords (getD rows 1 []))) u
     → v ≡ wordsOf c (bookIn rows counts)
 unfolding wordsOf sideWords
 book-written t u v c rows counts p e f =
@@ -87,10 +88,10 @@ book-written t u v c rows counts p e f =
     let eb : flat (map rowWords (bids .rows)) ≡ b = ap (λ (l : List Row). flat (map rowWords l)) (p .1 .bids .zeros) in
     let eo : flat (map rowWords (offers .rows)) ≡ o = ap (λ (l : List Row). flat (map rowWords l)) (p .1 .offers .zeros) in
     let head : List ℕ = c ∷ bids .n ∷ offers .n ∷ 0 ∷ [] in
-    let nb : length b ≡ 30 = side-words (live bids) in
-    let no′ : length o ≡ 30 = side-words (live offers) in
-    f ∙ (λ i. overlay 34 (eo i) u) ∙ ap (overlay 34 o) (e ∙ (λ i. overlay 4 (eb i) (set (set (set (set t 0 c) 1 (bids .n)) 2 (offers .n)) 3 0)) ∙ ap (overlay 4 b) (sets-overlay t 0 head (omega (arith, p .0))) ∙ overlay-join 0 4 head b t refl (omega (arith, p .0)))
-    ∙ overlay-join 0 34 (head ++ b) o t (simp length-append (omega arith)) (omega (arith, p .0))
+    let nb : length b ≡ sideWidth = side-words (live bids) in
+    let no′ : length o ≡ sideWidth = side-words (live offers) in
+    f ∙ (λ i. overlay offersAt (eo i) u) ∙ ap (overlay offersAt o) (e ∙ (λ i. overlay bidsAt (eb i) (set (set (set (set t 0 c) 1 (bids .n)) 2 (offers .n)) 3 0)) ∙ ap (overlay bidsAt b) (sets-overlay t 0 head (omega (arith, p .0))) ∙ overlay-join 0 4 head b t refl (omega (arith, p .0)))
+    ∙ overlay-join 0 offersAt (head ++ b) o t (simp length-append (omega arith)) (omega (arith, p .0))
     ∙ overlay-whole ((head ++ b) ++ o) t (simp length-append (omega (arith, p .0)))
     ∙ (λ i. c ∷ sym (live-n bids (p .1 .bids)) i ∷ sym (live-n offers (p .1 .offers)) i ∷ 0 ∷ (b ++ o))
 

@@ -10,6 +10,7 @@ ghost use Rattle.wire.specs.Units.{unitOf, messageIn};
 pub const WORD32: u64 = 4294967296;
 
 const BIAS: u64 = 2147483648;
+
 const SIGNED_BIAS: i64 = BIAS as i64;
 
 // The bytes of a header, and of MsgSize behind it.
