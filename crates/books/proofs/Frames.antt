@@ -10,7 +10,6 @@ use mathlib.Core.Option.{Option, none, some}
 use lib.Dec.{T, ltb}
 use Rattle.ground.specs.Choice.{all}
 use Rattle.wire.specs.Number.{bytesOnly}
-use Rattle.ladder.specs.Loading.{SoundBook}
 use Rattle.ladder.proofs.Orders.{all-set}
 use Rattle.ladder.proofs.Keeps.{empty-sound, book-sound}
 use lib.ListN.{length, drop, replicate}
@@ -26,7 +25,7 @@ use Rattle.slots.proofs.Zeros.{slots-cleared, lowest-cleared, length-cleared}
 use Rattle.slots.proofs.Frame.{Taken, taken-fits, write-own, write-other, write-lowest}
 use Rattle.ladder.specs.Message.{securityCode, noEntries, entriesFrom, entries}
 use Rattle.ladder.specs.Walk.{Book, emptyBook, walk}
-use Rattle.ladder.specs.Words.{bookOf, wordsOf, sound, soundSide, rowsFrom, bestFirst, bounded, zeroRow}
+use Rattle.ladder.specs.Words.{bookOf, wordsOf, sound, soundSide, rowsFrom, bestFirst, bounded, zeroRow, SoundBook}
 use Rattle.ladder.proofs.Walks.{Few, walk-few}
 use Rattle.ladder.proofs.Writes.{book-words}
 use Rattle.ladder.proofs.Rounds.{code-back, book-back, written-sound}

@@ -22,8 +22,8 @@ use Rattle.slots.proofs.Frame.{taken-fits}
 use Rattle.ladder.specs.Message.{securityCode, noEntries, entriesFrom, entries, listedCode, listedEntry, listedBook}
 use Rattle.ladder.specs.Walk.{Book, emptyBook, walk}
 use Rattle.ladder.specs.Words.{bookOf, wordsOf, sound}
-use Rattle.ladder.specs.Arrays.{Sides, bookIn}
-use Rattle.ladder.specs.Loading.{Met, met, settled, rowsIn}
+use Rattle.ladder.specs.Code.Arrays.{Sides, asBook}
+use Rattle.ladder.specs.Code.Loading.{Met, met, settled, rowsIn}
 use Rattle.ladder.specs.declared.Entry.{Entry}
 use Rattle.ladder.specs.declared.Row.{Row}
 use Rattle.ladder.proofs.Walks.{empty-sides}
@@ -62,7 +62,7 @@ module _ (own t : Bool) (w : List ℕ) (e : t ≡ ready own w) where
   sides true q y = sides-padded w (ap (λ (o : Bool). ready o w) (sym q) ∙ sym e ∙ y)
   sides false q y = empty-sides
 
-  book-is : (o : Bool) → bookIn (startRows o w) (startCounts o w) ≡ cond o (bookOf w) emptyBook
+  book-is : (o : Bool) → asBook (startRows o w) (startCounts o w) ≡ cond o (bookOf w) emptyBook
   book-is true = refl
   book-is false = refl
 
@@ -70,7 +70,7 @@ module _ (own t : Bool) (w : List ℕ) (e : t ≡ ready own w) where
     pub start-sides : Sides rows counts
     start-sides = rw (r, k) (sides own refl y)
 
-    pub ready-met : (u : List ℕ) (c time x : ℕ) (es : List Entry) → met x u ≡ settled c (walk time es (bookIn rows counts)) w → met x u ≡ slotMet own c time es w
+    pub ready-met : (u : List ℕ) (c time x : ℕ) (es : List Entry) → met x u ≡ settled c (walk time es (asBook rows counts)) w → met x u ≡ slotMet own c time es w
     unfolding slotMet
     ready-met u c time x es h = h ∙ rw (r, k, book-is own, sym e ∙ y)
 

@@ -8,8 +8,8 @@ use Rattle.slots.specs.declared.Slot.{Slot}
 use Rattle.slots.specs.declared.Slot.the-variants.{Held, Free, Full}
 use Rattle.ladder.specs.Walk.{emptyBook, walk}
 use Rattle.ladder.specs.Words.{bookWidth, bookOf, sound}
-use Rattle.ladder.specs.Arrays.{emptyRows, emptyCounts}
-use Rattle.ladder.specs.Loading.{Met, met, settled, rowsIn, countsIn}
+use Rattle.ladder.specs.Code.Arrays.{emptyRows, emptyCounts}
+use Rattle.ladder.specs.Code.Loading.{Met, met, settled, rowsIn, countsIn}
 use Rattle.ladder.specs.declared.Entry.{Entry}
 use Rattle.ladder.specs.declared.Row.{Row}
 use Rattle.books.specs.Table.{block, bookAnswer, booksAfter}

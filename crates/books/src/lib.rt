@@ -7,7 +7,7 @@ ghost use Rattle.slots.specs.Slots.{slotCount};
 ghost use Rattle.ladder.specs.Message.{noEntries, entriesAt, entrySize, entriesFrom, listedCode, listedBook, listedSide, listedRank};
 ghost use Rattle.ladder.specs.Words.{rowOf};
 ghost use Rattle.wire.specs.Number.{word32};
-ghost use Rattle.ladder.specs.Loading.{met};
+ghost use Rattle.ladder.specs.Code.Loading.{met};
 ghost use Rattle.books.specs.Table.{placeIn, block as blockOf};
 ghost use Rattle.books.specs.Turns.{ready, startRows, startCounts, slotMet, within, placeMet, bookTurn};
 ghost use Rattle.books.specs.Reading.{rowRefused, rowOfSide, rowOfBook, readRow};

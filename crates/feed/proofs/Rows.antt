@@ -23,7 +23,7 @@ use Rattle.wire.proofs.Fronts.{unit-fits, message-length}
 use Rattle.slots.specs.Slots as slots
 use Rattle.books.specs.Table.{unsound, noSlot, misfits, bookAnswer, booksAfter}
 use Rattle.books.specs.Turns.{bookTurn}
-use Rattle.ladder.specs.Loading.{Met, met}
+use Rattle.ladder.specs.Code.Loading.{Met, met}
 use Rattle.feed.specs.Messages.{kindOf, onMarket, market, book, wrongSize, statusOf, listed}
 use Rattle.feed.specs.Feeds.{deaf, inPhase, nextIs, internalIs, heardAt, wholeIs, freshIs}
 use Rattle.feed.specs.Events.{Tables, Event, Connect, Arrive, Cut, timeOf, News, Linked, Message, cutFrom, news, onMessage, newsSize, offered}

@@ -14,7 +14,7 @@ use Rattle.ground.proofs.Bools.{both, cond-same, cond-test}
 use Rattle.ladder.specs.Message.{depth, listedRank}
 use Rattle.ladder.specs.Sides.{better, noRow, rowAt, has, newFits, newRows, changeFits, changeRows, deleteFits, deleteRows, fits, rowsAfter}
 use Rattle.ladder.specs.Words.{pad}
-use Rattle.ladder.specs.Arrays.{Side, live, Padded, fitsAt, wayOf, tenAfter, countAfter}
+use Rattle.ladder.specs.Code.Arrays.{Side, live, Padded, fitsAt, wayOf, tenAfter, countAfter}
 use Rattle.ladder.specs.declared.Way.{Way}
 use Rattle.ladder.specs.declared.Way.the-variants.{Bid, Offer}
 use Rattle.ladder.specs.declared.Row.{Row}

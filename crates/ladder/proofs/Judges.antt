@@ -18,7 +18,7 @@ use Rattle.wire.specs.Number.{word32}
 use Rattle.ground.proofs.Bools.{both, join, split}
 use Rattle.ladder.specs.Sides.{better, noRow}
 use Rattle.ladder.specs.Words.{rowWidth, sideWidth, bidsAt, offersAt, rowOf, rowsFrom, bestFirst, bounded, zeroRow, soundSide, sound}
-use Rattle.ladder.specs.Loading.{inOrder, usedOf, lowsOf, soundWords}
+use Rattle.ladder.specs.Code.Loading.{inOrder, usedOf, lowsOf, soundWords}
 use Rattle.ladder.specs.declared.Way.{Way}
 use Rattle.ladder.specs.declared.Way.the-variants.{Bid, Offer}
 use Rattle.ladder.specs.declared.Row.{Row}

@@ -15,8 +15,7 @@ use Rattle.wire.proofs.Fields.{field-below}
 use Rattle.ladder.specs.Message.{depth, entrySize, entriesAt, entryAt, entriesFrom, entries, listedRank}
 use Rattle.ladder.specs.Sides.{better, noRow, rowAt, has, newFits, newRows, changeFits, changeRows, deleteFits, deleteRows, fits, rowsAfter, onSide}
 use Rattle.ladder.specs.Walk.{Book, emptyBook, withBids, withOffers, onBook, walk, bookAfter}
-use Rattle.ladder.specs.Words.{bestFirst, bounded}
-use Rattle.ladder.specs.Loading.{SoundRows, SoundBook}
+use Rattle.ladder.specs.Words.{bestFirst, bounded, SoundRows, SoundBook}
 use Rattle.ladder.specs.declared.Way.{Way}
 use Rattle.ladder.specs.declared.Way.the-variants.{Bid, Offer}
 use Rattle.ladder.specs.declared.Row.{Row}

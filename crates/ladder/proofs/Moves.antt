@@ -14,7 +14,7 @@ use borrow.Author.Tests.{lt-ltb, le-ltb, le-leb, lt-leb, leb-true, eq-eqb, ne-eq
 use Rattle.ground.specs.Choice.{pick}
 use Rattle.ladder.specs.Sides.{noRow, newRows, deleteRows}
 use Rattle.ladder.specs.Words.{noRows}
-use Rattle.ladder.specs.Arrays.{emptyRows, tenAfter, countAfter}
+use Rattle.ladder.specs.Code.Arrays.{emptyRows, tenAfter, countAfter}
 use Rattle.ladder.specs.declared.Row.{Row}
 use Rattle.ladder.specs.declared.Entry.{Entry}
 use Rattle.ladder.proofs.Shift.{ins, del, length-ins, length-del, getD-ins, getD-before, getD-after, getD-del}

@@ -7,7 +7,7 @@ use lib.ListN.{length, take, getD, set, length-append, getD-replicate}
 use lib.Seq.{take-take, take-set-lt, set-append-left, take-suc, getD-append-add, length-take-le, getD-take, take-append-seam}
 use Rattle.ladder.specs.Sides.{noRow}
 use Rattle.ladder.specs.Words.{noRows, pad}
-use Rattle.ladder.specs.Arrays.{Side, live, Padded}
+use Rattle.ladder.specs.Code.Arrays.{Side, live, Padded}
 use Rattle.ladder.specs.declared.Row.{Row}
 use Rattle.ladder.proofs.Shift.{ins, del, take-ins, take-over, del-take, ins-append, del-append, length-del}
 use Rattle.ladder.specs.Message.{depth}

@@ -16,9 +16,8 @@ use Rattle.ground.specs.Choice.{all}
 use Rattle.ground.proofs.Bools.{both, join}
 use Rattle.ladder.specs.Sides.{noRow}
 use Rattle.ladder.specs.Walk.{Book}
-use Rattle.ladder.specs.Words.{rowWidth, sideWidth, bookWidth, bidCount, offerCount, spareWord, bidsAt, offersAt, rowOf, rowWords, rowsFrom, bookOf, pad, sideWords, wordsOf, zeroRow, soundSide, sound}
-use Rattle.ladder.specs.Arrays.{Padded}
-use Rattle.ladder.specs.Loading.{SoundRows, SoundBook}
+use Rattle.ladder.specs.Words.{rowWidth, sideWidth, bookWidth, bidCount, offerCount, spareWord, bidsAt, offersAt, rowOf, rowWords, rowsFrom, bookOf, pad, sideWords, wordsOf, zeroRow, soundSide, sound, SoundRows, SoundBook}
+use Rattle.ladder.specs.Code.Arrays.{Padded}
 use Rattle.ladder.specs.declared.Way.{Way}
 use Rattle.ladder.specs.declared.Way.the-variants.{Bid, Offer}
 use Rattle.ladder.specs.declared.Row.{Row}

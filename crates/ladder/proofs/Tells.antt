@@ -13,9 +13,9 @@ use Rattle.ground.specs.Choice.{all}
 use Rattle.wire.specs.Number.{word32}
 use Rattle.ground.proofs.Bools.{both, join}
 use Rattle.ladder.specs.Sides.{noRow}
-use Rattle.ladder.specs.Words.{bidCount, offerCount, spareWord, bidsAt, offersAt, rowsFrom, bookOf, noRows, pad, bestFirst, bounded, zeroRow, soundSide, sound}
-use Rattle.ladder.specs.Arrays.{Padded, Sides}
-use Rattle.ladder.specs.Loading.{rowsIn, countsIn, SoundRows, SoundBook}
+use Rattle.ladder.specs.Words.{bidCount, offerCount, spareWord, bidsAt, offersAt, rowsFrom, bookOf, noRows, pad, bestFirst, bounded, zeroRow, soundSide, sound, SoundRows, SoundBook}
+use Rattle.ladder.specs.Code.Arrays.{Padded, Sides}
+use Rattle.ladder.specs.Code.Loading.{rowsIn, countsIn}
 use Rattle.ladder.specs.declared.Way.{Way}
 use Rattle.ladder.specs.declared.Way.the-variants.{Bid, Offer}
 use Rattle.ladder.specs.declared.Row.{Row}

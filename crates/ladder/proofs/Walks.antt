@@ -16,8 +16,8 @@ use Rattle.ground.proofs.Bools.{cond-same, split}
 use Rattle.ladder.specs.Message.{depth, entrySize, entryOf, entryAt, entriesFrom, listedEntry, listedSide, listedRank}
 use Rattle.ladder.specs.Sides.{noRow, newRows, changeRows, deleteRows, fits, rowsAfter, onSide}
 use Rattle.ladder.specs.Walk.{Book, emptyBook, withBids, withOffers, onBook, walk}
-use Rattle.ladder.specs.Arrays.{Side, live, Padded, sideAt, bookIn, Sides, emptyRows, emptyCounts, wayOf, fitsAt, tenAfter, countAfter}
-use Rattle.ladder.specs.Loading.{met, settled}
+use Rattle.ladder.specs.Code.Arrays.{Side, live, Padded, sideAt, asBook, Sides, emptyRows, emptyCounts, wayOf, fitsAt, tenAfter, countAfter}
+use Rattle.ladder.specs.Code.Loading.{met, settled}
 use Rattle.ladder.specs.Words.{bookWidth, noRows, wordsOf}
 use Rattle.ladder.specs.declared.Way.{Way}
 use Rattle.ladder.specs.declared.Way.the-variants.{Bid, Offer}
@@ -157,11 +157,11 @@ module _ (time : ℕ) (e : Entry) (b : Book) where
 -- two sides, of which side k is the one that an entry is for
 module _ (rows : List (List Row)) (counts : List ℕ) (two : (length rows ≡ 2) × (length counts ≡ 2)) where
   -- the book with one of them set
-  set-bids : (x : List Row) (n : ℕ) → bookIn (set rows 0 x) (set counts 0 n) ≡ withBids (bookIn rows counts) (take n x)
+  set-bids : (x : List Row) (n : ℕ) → asBook (set rows 0 x) (set counts 0 n) ≡ withBids (asBook rows counts) (take n x)
   set-bids x n =
       rw (getD-set-same rows 0 x [] (omega (arith, two)), getD-set-same counts 0 n 0 (omega (arith, two)), getD-set-other rows 0 1 x [] (λ e. omega arith), getD-set-other counts 0 1 n 0 (λ e. omega arith))
 
-  set-offers : (x : List Row) (n : ℕ) → bookIn (set rows 1 x) (set counts 1 n) ≡ withOffers (bookIn rows counts) (take n x)
+  set-offers : (x : List Row) (n : ℕ) → asBook (set rows 1 x) (set counts 1 n) ≡ withOffers (asBook rows counts) (take n x)
   set-offers x n =
       rw (getD-set-same rows 1 x [] (omega (arith, two)), getD-set-same counts 1 n 0 (omega (arith, two)), getD-set-other rows 1 0 x [] (λ e. omega arith), getD-set-other counts 1 0 n 0 (λ e. omega arith))
 
@@ -178,13 +178,13 @@ module _ (rows : List (List Row)) (counts : List ℕ) (two : (length rows ≡ 2)
 
   -- the book after an entry that fits, and after one that does not
   on-side : (time : ℕ) (e : Entry) (k : ℕ) (x : List Row) (n : ℕ) → (e .action ≡ 74 → ⊥) → e .side ≡ k → k ≤ 1 → fits (wayOf k) e (live (sideAt k rows counts)) ≡ true
-      → take n x ≡ rowsAfter e (live (sideAt k rows counts)) → onBook time e (bookIn rows counts) ≡ some (bookIn (set rows k x) (set counts k n))
+      → take n x ≡ rowsAfter e (live (sideAt k rows counts)) → onBook time e (asBook rows counts) ≡ some (asBook (set rows k x) (set counts k n))
   unfolding onBook onSide pick
   on-side time e zero x n a d h f q = rw (ne-eqb (e .action) 74 a, eq-eqb (e .side) 0 d, f, set-bids x n, q)
   on-side time e (suc zero) x n a d h f q = rw (ne-eqb (e .action) 74 a, ne-eqb (e .side) 0 (λ z. omega arith), eq-eqb (e .side) 1 d, f, set-offers x n, q)
   on-side time e (suc (suc k)) x n a d h f q = absurd (omega arith)
 
-  not-side : (time : ℕ) (e : Entry) (k : ℕ) → (e .action ≡ 74 → ⊥) → e .side ≡ k → k ≤ 1 → fits (wayOf k) e (live (sideAt k rows counts)) ≡ false → onBook time e (bookIn rows counts) ≡ none
+  not-side : (time : ℕ) (e : Entry) (k : ℕ) → (e .action ≡ 74 → ⊥) → e .side ≡ k → k ≤ 1 → fits (wayOf k) e (live (sideAt k rows counts)) ≡ false → onBook time e (asBook rows counts) ≡ none
   unfolding onBook onSide pick
   not-side time e zero a d h f = rw (ne-eqb (e .action) 74 a, eq-eqb (e .side) 0 d, f)
   not-side time e (suc zero) a d h f = rw (ne-eqb (e .action) 74 a, ne-eqb (e .side) 0 (λ z. omega arith), eq-eqb (e .side) 1 d, f)
@@ -209,7 +209,7 @@ pub record Walking (time : ℕ) (s : List ℕ) (n : ℕ) (w₀ : List ℕ) (rows
   pub stays : w ≡ w₀
   pub two : (length rows ≡ 2) × (length counts ≡ 2)
   pub sides : Sides rows counts
-  pub same : walk time (rest n i s) (bookIn rows counts) ≡ walk time (entriesFrom n 0 s) (bookIn rows₀ counts₀)
+  pub same : walk time (rest n i s) (asBook rows counts) ≡ walk time (entriesFrom n 0 s) (asBook rows₀ counts₀)
 
 pub walk-starts : (time : ℕ) (s : List ℕ) (n : ℕ) (w : List ℕ) (rows : List (List Row)) (counts : List ℕ) → (length w ≡ bookWidth) × Sides rows counts × (entrySize * n ≤ length s)
     → length rows ≡ 2 → length counts ≡ 2 → Walking time s n w rows counts w rows counts 0
@@ -220,14 +220,14 @@ walk-starts time s n w rows counts p r c = record {
   stays = refl;
   two = (r, c);
   sides = p .1;
-  same = ap (λ (es : List Entry). walk time es (bookIn rows counts)) (rest-all n s);
+  same = ap (λ (es : List Entry). walk time es (asBook rows counts)) (rest-all n s);
 }
 
 pub walk-ends : (time : ℕ) (s : List ℕ) (n c : ℕ) (w₀ : List ℕ) (rows₀ : List (List Row)) (counts₀ w u : List ℕ) (rows : List (List Row)) (counts : List ℕ) (i : ℕ)
-    → Walking time s n w₀ rows₀ counts₀ w rows counts i → n ≤ i → u ≡ wordsOf c (bookIn rows counts) → met 0 u ≡ settled c (walk time (entriesFrom n 0 s) (bookIn rows₀ counts₀)) w₀
+    → Walking time s n w₀ rows₀ counts₀ w rows counts i → n ≤ i → u ≡ wordsOf c (asBook rows counts) → met 0 u ≡ settled c (walk time (entriesFrom n 0 s) (asBook rows₀ counts₀)) w₀
 unfolding walk
 walk-ends time s n c w₀ rows₀ counts₀ w u rows counts i p h e =
-    let f : walk time (entriesFrom n 0 s) (bookIn rows₀ counts₀) ≡ some (bookIn rows counts) = sym (p .same) ∙ ap (λ (es : List Entry). walk time es (bookIn rows counts)) (rest-none n i s h) in
+    let f : walk time (entriesFrom n 0 s) (asBook rows₀ counts₀) ≡ some (asBook rows counts) = sym (p .same) ∙ ap (λ (es : List Entry). walk time es (asBook rows counts)) (rest-none n i s h) in
     rw (f, e)
 
 -- the test on numbers told whether the entry fits its side
@@ -239,21 +239,21 @@ fits-told rows counts e way t f up p k a b y u q r =
 
 module _ (time : ℕ) (s : List ℕ) (n : ℕ) (w₀ : List ℕ) (rows₀ : List (List Row)) (counts₀ w : List ℕ) (rows : List (List Row)) (counts : List ℕ) (i : ℕ)
     (p : Walking time s n w₀ rows₀ counts₀ w rows counts i) (h : i < n) (e : Entry) (q : e ≡ entryAt (entrySize * i) s) where
-  one-more : bind (onBook time e (bookIn rows counts)) (walk time (rest n (i + 1) s)) ≡ walk time (entriesFrom n 0 s) (bookIn rows₀ counts₀)
+  one-more : bind (onBook time e (asBook rows counts)) (walk time (rest n (i + 1) s)) ≡ walk time (entriesFrom n 0 s) (asBook rows₀ counts₀)
   unfolding walk
-  one-more = rw q (sym (ap (λ (es : List Entry). walk time es (bookIn rows counts)) (rest-more n i s h)) ∙ p .same)
+  one-more = rw q (sym (ap (λ (es : List Entry). walk time es (asBook rows counts)) (rest-more n i s h)) ∙ p .same)
 
-  goes : (rows′ : List (List Row)) (counts′ : List ℕ) → (length rows′ ≡ 2) × (length counts′ ≡ 2) → Sides rows′ counts′ → onBook time e (bookIn rows counts) ≡ some (bookIn rows′ counts′)
+  goes : (rows′ : List (List Row)) (counts′ : List ℕ) → (length rows′ ≡ 2) × (length counts′ ≡ 2) → Sides rows′ counts′ → onBook time e (asBook rows counts) ≡ some (asBook rows′ counts′)
       → Walking time s n w₀ rows₀ counts₀ w rows′ counts′ (i + 1)
   unfolding bind
   goes rows′ counts′ two sides f = record { upto = omega arith; room = p .room; long = p .long; stays = p .stays; two = two; sides = sides; same = rw f at one-more }
 
-  stops : (c : ℕ) → onBook time e (bookIn rows counts) ≡ none → met 16 w ≡ settled c (walk time (entriesFrom n 0 s) (bookIn rows₀ counts₀)) w₀
+  stops : (c : ℕ) → onBook time e (asBook rows counts) ≡ none → met 16 w ≡ settled c (walk time (entriesFrom n 0 s) (asBook rows₀ counts₀)) w₀
   unfolding bind
   stops c f = ap (met 16) (p .stays) ∙ ap (λ (r : Option Book). settled c r w₀) (rw f at one-more)
 
   pub walk-clear : (rows′ : List (List Row)) → e .action ≡ 74 → rows′ ≡ emptyRows → Walking time s n w₀ rows₀ counts₀ w rows′ emptyCounts (i + 1)
-  walk-clear rows′ a r = rw r (goes emptyRows emptyCounts (refl, refl) empty-sides (on-clear time e (bookIn rows counts) a))
+  walk-clear rows′ a r = rw r (goes emptyRows emptyCounts (refl, refl) empty-sides (on-clear time e (asBook rows counts) a))
 
   pub walk-side : (x : List Row) (m : ℕ) → (e .action ≡ 74 → ⊥) → e .side ≤ 1 → fits (wayOf (e .side)) e (live (sideAt (e .side) rows counts)) ≡ true
       → x ≡ tenAfter e (getD rows (e .side) []) → m ≡ countAfter (e .action) (getD counts (e .side) 0)
@@ -275,19 +275,19 @@ module _ (time : ℕ) (s : List ℕ) (n : ℕ) (w₀ : List ℕ) (rows₀ : List
   pub count-one : e .side ≤ 1 → fits (wayOf (e .side)) e (live (sideAt (e .side) rows counts)) ≡ true → (eqb (e .action) 0 || leb 1 (getD counts (e .side) 0)) ≡ true
   count-one d f = has-one (wayOf (e .side)) (sideAt (e .side) rows counts) e (side-padded rows counts (e .side) (p .sides) d) f
 
-  pub stop-zero : (c : ℕ) → (e .action ≡ 74 → ⊥) → e .level < 1 → met 16 w ≡ settled c (walk time (entriesFrom n 0 s) (bookIn rows₀ counts₀)) w₀
+  pub stop-zero : (c : ℕ) → (e .action ≡ 74 → ⊥) → e .level < 1 → met 16 w ≡ settled c (walk time (entriesFrom n 0 s) (asBook rows₀ counts₀)) w₀
   unfolding listedRank
-  stop-zero c a l = stops c (no-rank time e (bookIn rows counts) a (rw (lt-leb 1 (e .level) l)))
+  stop-zero c a l = stops c (no-rank time e (asBook rows counts) a (rw (lt-leb 1 (e .level) l)))
 
-  pub stop-eleven : (c : ℕ) → (e .action ≡ 74 → ⊥) → 1 ≤ e .level → depth < e .level → met 16 w ≡ settled c (walk time (entriesFrom n 0 s) (bookIn rows₀ counts₀)) w₀
+  pub stop-eleven : (c : ℕ) → (e .action ≡ 74 → ⊥) → 1 ≤ e .level → depth < e .level → met 16 w ≡ settled c (walk time (entriesFrom n 0 s) (asBook rows₀ counts₀)) w₀
   unfolding listedRank
-  stop-eleven c a l u = stops c (no-rank time e (bookIn rows counts) a (rw (le-leb 1 (e .level) l, lt-leb (e .level) depth u)))
+  stop-eleven c a l u = stops c (no-rank time e (asBook rows counts) a (rw (le-leb 1 (e .level) l, lt-leb (e .level) depth u)))
 
-  pub stop-side : (c : ℕ) → (e .action ≡ 74 → ⊥) → 1 < e .side → met 16 w ≡ settled c (walk time (entriesFrom n 0 s) (bookIn rows₀ counts₀)) w₀
-  stop-side c a d = stops c (no-side time e (bookIn rows counts) a d)
+  pub stop-side : (c : ℕ) → (e .action ≡ 74 → ⊥) → 1 < e .side → met 16 w ≡ settled c (walk time (entriesFrom n 0 s) (asBook rows₀ counts₀)) w₀
+  stop-side c a d = stops c (no-side time e (asBook rows counts) a d)
 
   pub stop-misfit : (c : ℕ) → (e .action ≡ 74 → ⊥) → e .side ≤ 1 → fits (wayOf (e .side)) e (live (sideAt (e .side) rows counts)) ≡ false
-      → met 16 w ≡ settled c (walk time (entriesFrom n 0 s) (bookIn rows₀ counts₀)) w₀
+      → met 16 w ≡ settled c (walk time (entriesFrom n 0 s) (asBook rows₀ counts₀)) w₀
   stop-misfit c a d f = stops c (not-side rows counts (p .two) time e (e .side) a refl d f)
 
 pub ruleset walking = (needs, walk-starts, walk-ends, walk-clear, walk-side, count-few, count-one, stop-zero, stop-eleven, stop-side, stop-misfit, fits-told)

@@ -12,7 +12,7 @@ use Rattle.slots.proofs.Overlay.{length-overlay, length-flat, sets-overlay, ove
 use Rattle.ladder.specs.Sides.{noRow}
 use Rattle.ladder.specs.Walk.{Book}
 use Rattle.ladder.specs.Words.{rowWidth, sideWidth, bookWidth, bidsAt, offersAt, rowWords, pad, sideWords, wordsOf}
-use Rattle.ladder.specs.Arrays.{Side, live, sideAt, bookIn, Sides}
+use Rattle.ladder.specs.Code.Arrays.{Side, live, sideAt, asBook, Sides}
 use Rattle.ladder.specs.declared.Row.{Row}
 use Rattle.ladder.proofs.Pads.{length-pad, live-n}
 use Rattle.ladder.specs.Message.{depth}
@@ -78,7 +78,7 @@ book-long t u v c m n z e f = f ∙ e ∙ simp length-set
 
 pub book-written : (t u v : List ℕ) (c : ℕ) (rows : List (List Row)) (counts : List ℕ) → (length t ≡ bookWidth) × Sides rows counts
     → u ≡ overlay bidsAt (flat (map rowWords (getD rows 0 []))) (set (set (set (set t 0 c) 1 (getD counts 0 0)) 2 (getD counts 1 0)) 3 0) → v ≡ overlay offersAt (flat (map rowWords (getD rows 1 []))) u
-    → v ≡ wordsOf c (bookIn rows counts)
+    → v ≡ wordsOf c (asBook rows counts)
 unfolding wordsOf sideWords
 book-written t u v c rows counts p e f =
     let bids : Side = sideAt 0 rows counts in

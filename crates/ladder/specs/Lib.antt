@@ -2,5 +2,4 @@ pub mod Message
 pub mod Sides
 pub mod Walk
 pub mod Words
-pub mod Arrays
-pub mod Loading
+pub mod Code

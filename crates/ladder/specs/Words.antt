@@ -1,5 +1,6 @@
 -- The 64 words of a book, and which of them are sound (document 01, "The book table"). Assumes nothing.
-use Prim.Native.Nat.{ℕ, _+_, _*_}
+use Prim.Native.Nat.{ℕ, _+_, _*_, _≤_}
+use mathlib.Core.Path.{_≡_}
 use mathlib.Core.Bool.{Bool, true, _&&_}
 use mathlib.Core.List.{List, [], _∷_, _++_, map}
 use lib.ListN.{length, take, drop, getD, replicate}
@@ -88,3 +89,14 @@ soundSide w n rows = leb n depth && all zeroRow (drop n rows) && all bounded (ta
 -- "A book is sound if both counts are at most 10, word 3 and unused rows are zero, price and orders words are below 4,294,967,296, bids strictly fall and offers strictly rise"
 unfoldable pub sound : List ℕ → Bool
 sound w = eqb (spareWord w) 0 && soundSide Bid (bidCount w) (rowsFrom bidsAt w) && soundSide Offer (offerCount w) (rowsFrom offersAt w)
+
+-- a side by value: at most ten rows, price and orders words below 4,294,967,296, each row better than the next
+pub record SoundRows (w : Way) (s : List Row) : Type 0 where
+  pub few : length s ≤ depth
+  pub words : all bounded s ≡ true
+  pub best : bestFirst w s ≡ true
+
+-- a book by value
+pub record SoundBook (b : Book) : Type 0 where
+  pub bids : SoundRows Bid (b .bids)
+  pub offers : SoundRows Offer (b .offers)

@@ -14,7 +14,7 @@ ghost use mathlib.Core.Bool.{true, cond, _||_};
 ghost use lib.Dec.{leb, ltb, eqb};
 ghost use Rattle.ladder.specs.Message.{depth, new};
 ghost use Rattle.ladder.specs.Sides.{better, noRow, newRows, deleteRows};
-ghost use Rattle.ladder.specs.Arrays.{fitsAt, tenAfter, countAfter, emptyRows};
+ghost use Rattle.ladder.specs.Code.Arrays.{fitsAt, tenAfter, countAfter, emptyRows};
 
 // The last place of ten.
 pub(crate) const LAST: usize = DEPTH - 1;

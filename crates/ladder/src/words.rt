@@ -16,11 +16,11 @@ ghost use mathlib.Core.Path.{_≡_};
 ghost use mathlib.Core.List.{map};
 ghost use Prim.Native.Nat.{_+_, _≤_};
 ghost use lib.ListN.{length, drop};
-ghost use Rattle.ladder.specs.Arrays.{Sides, bookIn};
+ghost use Rattle.ladder.specs.Code.Arrays.{Sides, asBook};
 ghost use Rattle.slots.specs.Slots.{overlay, flat};
 ghost use Rattle.ladder.specs.Words.{bookWidth, sideWidth, bidCount, offerCount, bidsAt, offersAt, rowWidth, rowOf, rowWords, rowsFrom, wordsOf, soundSide, sound};
 ghost use Rattle.ladder.specs.declared.Way.the-variants.{Bid, Offer};
-ghost use Rattle.ladder.specs.Loading.{rowsIn, inOrder, soundWords};
+ghost use Rattle.ladder.specs.Code.Loading.{rowsIn, inOrder, soundWords};
 
 // The row in the three words from `at` on.
 pub fn row_at(block: &[u64], at: usize) -> Row
@@ -161,7 +161,7 @@ fn write_side(block: &mut [u64], base: usize, rows: [Row; DEPTH])
 // A book written to its words: code, counts, zero, bids, offers.
 pub(crate) fn write_book(block: &mut [u64], code: u64, rows: [[Row; DEPTH]; 2], counts: [usize; 2])
     requires { ⌜ (length (now block) ≡ bookWidth) × Sides rows counts ⌝ }
-    ensures { λ _. ⌜ now (block .exit) ≡ wordsOf code (bookIn rows counts) ⌝ }
+    ensures { λ _. ⌜ now (block .exit) ≡ wordsOf code (asBook rows counts) ⌝ }
 {
     block[0] = code;
     block[BID_COUNT_AT] = counts[0] as u64;

@@ -16,8 +16,7 @@ use Rattle.slots.specs.declared.Slot.the-variants.{Held, Free}
 use Rattle.ladder.specs.Message.{securityCode}
 use Rattle.ladder.specs.Sides.{noRow}
 use Rattle.ladder.specs.Walk.{Book, emptyBook, bookAfter}
-use Rattle.ladder.specs.Words.{bookWidth, sound}
-use Rattle.ladder.specs.Loading.{SoundBook}
+use Rattle.ladder.specs.Words.{bookWidth, sound, SoundBook}
 use Rattle.books.specs.Table.{placeIn, block, bookAt}
 use Rattle.books.specs.Reading.{readRow}
 use Rattle.feed.specs.Messages.{kind, statusOf, logonStatus}

@@ -1,20 +1,17 @@
--- The sides read from a book's words by value, the counts that tell whether one is sound, a sound book by value, and a book's words after a walk (document 01, "The book table"). Assumes nothing.
-use Prim.Native.Nat.{ℕ, zero, suc, _≤_}
-use mathlib.Core.Path.{_≡_}
-use mathlib.Core.Bool.{Bool, true, cond, _&&_}
+-- The sides read from a book's words by value, the counts that tell whether one is sound, and a book's words after a walk (document 01, "The book table"). Assumes nothing.
+use Prim.Native.Nat.{ℕ, zero, suc}
+use mathlib.Core.Bool.{Bool, cond, _&&_}
 use mathlib.Core.List.{List, [], _∷_}
 use mathlib.Core.Option.{Option, none, some}
-use lib.ListN.{length, getD}
+use lib.ListN.{getD}
 use lib.Bits.{bitOr}
 use lib.Dec.{leb, ltb}
-use Rattle.ground.specs.Choice.{all}
 use Rattle.wire.specs.Number.{word32}
 use Rattle.ladder.specs.Message.{depth}
 use Rattle.ladder.specs.Sides.{better, noRow}
 use Rattle.ladder.specs.Walk.{Book}
-use Rattle.ladder.specs.Words.{bidCount, offerCount, bidsAt, offersAt, rowsFrom, wordsOf, bestFirst, bounded, zeroRow}
+use Rattle.ladder.specs.Words.{bidCount, offerCount, bidsAt, offersAt, rowsFrom, wordsOf, zeroRow}
 use Rattle.ladder.specs.declared.Way.{Way}
-use Rattle.ladder.specs.declared.Way.the-variants.{Bid, Offer}
 use Rattle.ladder.specs.declared.Row.{Row}
 
 -- the two sides' ten rows, and their counts
@@ -42,17 +39,6 @@ lowsOf (suc i) s = bitOr (lowsOf i s) (bitOr (getD s i noRow .price) (getD s i n
 -- ten rows of which at most n are used, their price and orders words below 4,294,967,296
 unfoldable pub soundWords : ℕ → List Row → Bool
 soundWords n s = leb (usedOf depth s) n && ltb (lowsOf depth s) word32
-
--- a side by value: at most ten rows, price and orders words below 4,294,967,296, each row better than the next
-pub record SoundRows (w : Way) (s : List Row) : Type 0 where
-  pub few : length s ≤ depth
-  pub words : all bounded s ≡ true
-  pub best : bestFirst w s ≡ true
-
--- a book by value
-pub record SoundBook (b : Book) : Type 0 where
-  pub bids : SoundRows Bid (b .bids)
-  pub offers : SoundRows Offer (b .offers)
 
 -- an answer, and the words afterwards
 pub record Met : Type 0 where

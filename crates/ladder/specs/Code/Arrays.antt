@@ -33,8 +33,8 @@ pub record Padded (s : Side) : Type 0 where
 abbrev pub sideAt : ℕ → List (List Row) → List ℕ → Side
 sideAt k rows counts = record { n = getD counts k 0; rows = getD rows k [] }
 
-abbrev pub bookIn : List (List Row) → List ℕ → Book
-bookIn rows counts = record { bids = live (sideAt 0 rows counts); offers = live (sideAt 1 rows counts) }
+abbrev pub asBook : List (List Row) → List ℕ → Book
+asBook rows counts = record { bids = live (sideAt 0 rows counts); offers = live (sideAt 1 rows counts) }
 
 -- both are padded
 pub record Sides (rows : List (List Row)) (counts : List ℕ) : Type 0 where
