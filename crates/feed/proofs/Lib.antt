@@ -1,4 +1,4 @@
 pub mod Parts
 pub mod Laws
 pub mod Rows
-pub mod Arrivals
+pub mod Following

@@ -97,10 +97,6 @@ pub badge-plain : (n h l t : ℕ) (p : Phase) (b : Badge) (r : ℕ) → p ≡ ph
 badge-plain n h l t p b r e f g = rw (← e, ← f) g
 
 -- what a message is
-pub byte-is : (m : List ℕ) (k r : ℕ) → r ≡ getD m k 0 → r ≡ field k 1 m
-unfolding field
-byte-is m k r e = omega arith
-
 pub is-book : (t : ℕ) → t ≡ 53 → Book ≡ datumOf t
 unfolding datumOf pick
 is-book t e = rw e
@@ -238,8 +234,14 @@ module _ (k : Kind) (m : List ℕ) where
   unfolding listed
   listed-other d e f = rw (e, f)
 
-pub market-sized-by : (d e : Datum) (b : Bool) (m : List ℕ) → d ≡ e → b ≡ sized (Market e) m → b ≡ sized (Market d) m
-market-sized-by d e b m g f = rw g f
+module _ (k : Kind) (m : List ℕ) (d : Datum) (e : k ≡ Market d) where
+  pub sized-book : (b : Bool) → d ≡ Book → b ≡ bookSized m → b ≡ sized k m
+  unfolding sized
+  sized-book b f g = rw (e, f) g
+
+  pub sized-other : d ≡ Other → true ≡ sized k m
+  unfolding sized
+  sized-other f = rw (e, f)
 
 pub market-allowed-by : (p q : Phase) (b : Bool) (i : ℕ) → p ≡ q → b ≡ allowed (Market Other) q i → b ≡ allowed (Market Other) p i
 market-allowed-by p q b i e f = rw e f
@@ -407,7 +409,6 @@ pub ruleset parts = (
   badge-on,
   badge-off,
   badge-plain,
-  byte-is,
   is-book,
   is-other,
   is-market,
@@ -429,6 +430,8 @@ pub ruleset parts = (
   logout-listed,
   refresh-listed,
   listed-session,
+  sized-book,
+  sized-other,
   listed-market,
   listed-other,
   not-live,

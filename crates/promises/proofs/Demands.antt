@@ -31,7 +31,7 @@ use Rattle.feed.specs.declared.Answer.the-variants.{Keep, Lose, Spoil, Skip, Ta
 use Rattle.feed.proofs.Laws.{numbered}
 use Rattle.promises.specs.Refusals.{keeping, losing, spoiling}
 use Rattle.feed.specs.declared.Given.{Given}
-use Rattle.feed.proofs.Arrivals as A
+use Rattle.feed.proofs.Following as A
 use Rattle.promises.specs.Runs.{start, after, run}
 use Rattle.promises.specs.Demands as D
 use Rattle.promises.proofs.Refused as F

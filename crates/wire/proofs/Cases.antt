@@ -5,7 +5,7 @@ use native.Mathlib.Omega.{arith}
 use mathlib.Core.Path.{_≡_, refl, sym, _∙_}
 use mathlib.Core.List.{List, []}
 use lib.Dec.{lit<}
-use lib.ListN.{length, getD, take, drop, length-drop, drop-of-length-le, List·getD-eq-default}
+use lib.ListN.{length, getD, take, drop, length-drop, drop-of-length-le}
 use lib.Seq.{take-all, take-nil}
 use mir.Syntax.{w64}
 use mir.Val.{Fits}
@@ -16,10 +16,6 @@ use Rattle.wire.specs.Units.{unitOf, messageIn}
 use Rattle.wire.specs.declared.Unit.{Unit}
 use Rattle.wire.specs.declared.Unit.the-variants.{More, Heartbeat, Message}
 use Rattle.wire.proofs.Fields.{field-drop, field-clip}
-
--- a byte beyond the end
-pub past : (s : List ℕ) (i : ℕ) → length s ≤ i → 0 ≡ getD s i 0
-past s i h = sym (List·getD-eq-default s 0 h)
 
 -- the number so far is that of the last n - i bytes
 pub record Read (s : List ℕ) (at n v i : ℕ) : Type 0 where
@@ -142,9 +138,17 @@ the-rest s k u h e =
     let l : length (drop k s) ≤ length s - k = rw (length-drop k s) (omega arith) in
     rw (take-all (length s - k) (drop k s) l) at e
 
+-- the message at a place
+pub no-rest : (s : List ℕ) (k n : ℕ) → length s < k → [] ≡ messageIn (drop k s) n
+no-rest s k n h = no-part (drop k s) n (rw (length-drop k s) (omega arith))
+
+pub rest-part : (s r : List ℕ) (k n : ℕ) → k ≤ length s → r ≡ messageIn (take (length s - k) (drop k s)) n → r ≡ messageIn (drop k s) n
+rest-part s r k n h e =
+    let l : length (drop k s) ≤ length s - k = rw (length-drop k s) (omega arith) in
+    rw (take-all (length s - k) (drop k s) l) at e
+
 pub ruleset cases = (
   needs,
-  past,
   read-none,
   room-times,
   room-plus,
@@ -166,4 +170,6 @@ pub ruleset cases = (
   the-part,
   no-place,
   the-rest,
+  no-rest,
+  rest-part,
 )

@@ -36,13 +36,6 @@ fn wide(x: u8) -> u64
     x as u64
 }
 
-// The byte at i; a byte beyond the end counts as 0.
-pub fn byte_at(s: &[u8], i: usize) -> u64
-    ensures { λ r. ⌜ (r ≡ getD (now (s .entry)) i 0) × (r < 256) ⌝ }
-{
-    if i < s.len() { wide(s[i]) } else { 0 }
-}
-
 // The number in the n bytes from `at` on, all of them there.
 fn number_in(s: &[u8], at: usize, n: usize) -> u64
     requires { ⌜ (n ≤ 8) × (at + n ≤ length (now s)) ⌝ }
@@ -104,6 +97,13 @@ pub fn u64_in(s: &[u8], at: usize) -> u64
     number_in(s, at, 8)
 }
 
+// The number in the byte at a place; a byte beyond the end counts as 0.
+pub fn u8_at(s: &[u8], at: usize) -> u64
+    ensures { λ r. ⌜ (r ≡ field at 1 (now (s .entry))) × (r < 256) ⌝ }
+{
+    if at < s.len() { u8_in(s, at) } else { 0 }
+}
+
 // The number in the 2 bytes from `at` on; a byte beyond the end counts as 0.
 pub fn u16_at(s: &[u8], at: usize) -> u64
     ensures { λ r. ⌜ (r ≡ field at 2 (now (s .entry))) × (r < 65536) ⌝ }
@@ -135,7 +135,7 @@ pub fn price_of(word: u64) -> i64
 }
 
 // What stands at the front of a stream.
-pub fn unit_in(s: &[u8]) -> Unit
+fn unit_in(s: &[u8]) -> Unit
     ensures { λ r. ⌜ r ≡ unitOf (now (s .entry)) ⌝ }
 {
     if s.len() < HEADER_BYTES {
@@ -161,8 +161,8 @@ pub fn unit_in(s: &[u8]) -> Unit
     }
 }
 
-// The message of a unit, as the very part of the stream; of a message that runs past the end, what is there.
-pub fn message(s: &[u8], size: usize) -> &[u8]
+// The message of the unit at the front of a stream, as the very part of it; of a message that runs past the end, what is there.
+fn message_in(s: &[u8], size: usize) -> &[u8]
     ensures { λ r. ⌜ now r ≡ messageIn (now (s .entry)) size ⌝ }
 {
     if s.len() < HEADER_BYTES {
@@ -174,7 +174,7 @@ pub fn message(s: &[u8], size: usize) -> &[u8]
     &s[HEADER_BYTES..HEADER_BYTES + size]
 }
 
-// A place in a stream.
+// A place in a stream, by which units are taken off it.
 pub struct Cursor {
     pub at: usize,
 }
@@ -189,5 +189,16 @@ impl Cursor {
             return Unit::More;
         }
         unit_in(&s[at..])
+    }
+
+    // The message of the unit that stands there, as the very part of the stream; of a message that runs past the end, what is there.
+    pub fn message(self, s: &[u8], size: usize) -> &[u8]
+        ensures { λ r. ⌜ now r ≡ messageIn (drop (self .at) (now (s .entry))) size ⌝ }
+    {
+        let at = self.at;
+        if s.len() < at {
+            return &s[..0];
+        }
+        message_in(&s[at..], size)
     }
 }

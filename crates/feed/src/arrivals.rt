@@ -1,0 +1,101 @@
+// Arrivals of bytes and of messages already cut: judge, then act on the table.
+use super::Answer;
+use super::Datum;
+use super::Feed;
+use super::Given;
+use super::Kind;
+use super::Phase;
+use super::messages::kind_in;
+use wire::Cursor;
+use wire::Unit;
+ghost use mathlib.Core.Path.{_≡_};
+ghost use mathlib.Core.Bool.{false, cond};
+ghost use Prim.Native.Nat.{_≤_};
+ghost use Rattle.feed.specs.Messages.{kind as kindIn, wrongSize};
+ghost use Rattle.feed.specs.Feeds.{inPhase, wholeIs};
+ghost use Rattle.feed.specs.Events.{Arrive, Cut};
+ghost use Rattle.feed.specs.Answers.{lastSeqNum};
+ghost use Rattle.feed.specs.Steps.{advanced as advancedAt, counted, accepted, lent, stateOf, outOf, answered, outcome, onTables};
+
+// What arrives, and all that is written.
+impl Feed {
+    // A market message, as its table answers it: taken, or Lost and not whole.
+    fn market(self, answer: u64, internal: u32, time: u64) -> Given
+        requires { ⌜ self .next ≤ lastSeqNum ⌝ }
+        ensures { λ r. ⌜ r ≡ answered answer (cond (accepted answer) (advancedAt time (counted (Kind.Market Datum.Other) internal self)) (inPhase Phase.Lost (wholeIs false self))) ⌝ }
+    {
+        if answer <= 2 {
+            return self.numbered(internal, time).kept(answer);
+        }
+        self.spoilt(answer)
+    }
+
+    // A message that the feed leaves to the tables: what they make of it, and of the feed. All that is written is written here.
+    fn act(self, table: &mut [u64], kind: Kind, internal: u32, message: &[u8], time: u64) -> Given
+        requires { ⌜ (kind ≡ kindIn (now message)) × (wrongSize (now message) ≡ false) × (self .next ≤ lastSeqNum) ⌝ }
+        ensures { λ r. ⌜ outOf r (lent (now (table .exit))) ≡ onTables (stateOf self (lent (now (table .entry)))) (Cut (self .next) internal (now (message .entry)) time) ⌝ }
+    {
+        match kind {
+            Kind::Session(session) => {
+                if self.is_clearing(session, message) {
+                    slots::clear(table, 64);
+                    return self.done(session, message, time).kept(0);
+                }
+                self.done(session, message, time).kept(0)
+            }
+            Kind::Market(datum) => match datum {
+                Datum::Book => self.market(books::take(table, message, time), internal, time),
+                Datum::Other => self.numbered(internal, time).kept(2),
+            },
+        }
+    }
+
+    // The two numbers and a message already cut: never More, never a heartbeat, no bytes used.
+    pub fn arrive_cut(
+        self,
+        table: &mut [u64],
+        seq: u32,
+        internal: u32,
+        message: &[u8],
+        time: u64,
+    ) -> Given
+        ensures { λ r. ⌜ outOf r (lent (now (table .exit))) ≡ outcome (stateOf self (lent (now (table .entry)))) (Cut seq internal (now (message .entry)) time) ⌝ }
+    {
+        let kind = kind_in(message);
+        let verdict = self.verdict(kind, seq, internal, message, time);
+        match verdict {
+            Answer::Keep(n) => self.kept(n),
+            Answer::Lose(n) => self.lost(n),
+            Answer::Spoil(n) => self.spoilt(n),
+            Answer::Skip(n) => self.advanced(time).kept(n),
+            Answer::Take(_) => self.act(table, kind, internal, message, time),
+        }
+    }
+
+    // An arrival of bytes.
+    pub fn arrive(self, table: &mut [u64], bytes: &[u8], time: u64) -> Given
+        ensures { λ r. ⌜ outOf r (lent (now (table .exit))) ≡ outcome (stateOf self (lent (now (table .entry)))) (Arrive (now (bytes .entry)) time) ⌝ }
+    {
+        let front = Cursor { at: 0 };
+        let unit = front.read(bytes);
+        let Unit::Message {
+            seq,
+            internal,
+            size,
+        } = unit
+        else {
+            let refused = self.refusal(time);
+            if 0 < refused {
+                return self.kept(refused);
+            }
+            if let Unit::Heartbeat = unit {
+                return self.heard_at(time).kept(0).using(wire::HEADER_BYTES);
+            }
+            return self.kept(3);
+        };
+        let used = wire::HEADER_BYTES + size;
+        let message = front.message(bytes, size);
+        self.arrive_cut(table, seq, internal, message, time)
+            .using(used)
+    }
+}
