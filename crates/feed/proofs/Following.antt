@@ -17,7 +17,8 @@ use Rattle.feed.specs.Events.{Tables, State, Arrive, timeOf, News, Linke
 use Rattle.feed.specs.declared.Answer.{Answer}
 use Rattle.feed.specs.declared.Answer.the-variants.{Take}
 use Rattle.feed.specs.Answers.{number, arrives, lacksNeed, isMore, lineTests, tableTests, tests, answerTo}
-use Rattle.feed.specs.Steps.{Outcome, accepted, usedOf, act, answered, handed, outcome}
+use Rattle.feed.specs.Steps.{Outcome, accepted, usedOf, act, handed, outcome}
+use Rattle.feed.specs.Code.Judging.{answered}
 use Rattle.feed.specs.declared.Feed.{Feed}
 
 -- n bytes behind the first k stay when bytes follow

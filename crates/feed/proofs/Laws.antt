@@ -13,8 +13,10 @@ use Rattle.ground.proofs.Choices.{first-fails, first-settles, first-append, fir
 use Rattle.wire.proofs.Fronts.{unit-fits, message-length, heartbeat-fits}
 use Rattle.feed.specs.Feeds.{phaseNo, phaseOf, badge, badgeNo, badgeOf, plainBadge}
 use Rattle.feed.specs.Events.{Tables, State, Event, Arrive, timeOf, cutFrom, news, newsSize, offered}
-use Rattle.feed.specs.Answers.{number, lineTests, tableTests, tests, reply, verdict}
-use Rattle.feed.specs.Steps.{accepted, usedOf, stateOf, handed, outcome, onTables}
+use Rattle.feed.specs.Answers.{number, lineTests, tableTests, tests, reply}
+use Rattle.feed.specs.Code.Judging.{verdict}
+use Rattle.feed.specs.Steps.{accepted, usedOf, stateOf, handed, outcome}
+use Rattle.feed.specs.Code.Judging.{onTables}
 use Rattle.feed.specs.declared.Phase.{Phase}
 use Rattle.feed.specs.declared.Phase.the-variants.{Idle, WaitKey, WaitLogon, Refreshing, Live, Lost, Closed}
 use Rattle.feed.specs.declared.Feed.{Feed}

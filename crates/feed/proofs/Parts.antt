@@ -16,8 +16,10 @@ use Rattle.ladder.specs.Message.{bookSized, listedBook}
 use Rattle.feed.specs.Messages.{datumOf, kindOf, market, onMarket, sized, wrongSize, statusOf, listedStatus, listed}
 use Rattle.feed.specs.Feeds.{phaseNo, is, deaf, inPhase, internalIs, wholeIs, listedLimit, newFeed, newGiven, colour, badgeNo, badge, phaseOf, plainBadge}
 use Rattle.feed.specs.Events.{Tables, Linked}
-use Rattle.feed.specs.Answers.{lacksNeed, allowed, seen, refusal}
-use Rattle.feed.specs.Steps.{cleared, enterLive, loggedOn, onFeed, clearsOn, clears, clearedIf, advanced, counted, accepted, stateOf, answered, usedIs}
+use Rattle.feed.specs.Answers.{lacksNeed, allowed, seen}
+use Rattle.feed.specs.Code.Judging.{refusal}
+use Rattle.feed.specs.Steps.{cleared, enterLive, loggedOn, onFeed, clearsOn, clears, advanced, counted, accepted, stateOf}
+use Rattle.feed.specs.Code.Judging.{clearedIf, answered, usedIs}
 use Rattle.feed.specs.declared.Phase.{Phase}
 use Rattle.feed.specs.declared.Phase.the-variants.{Idle, Refreshing, Live, Lost, Closed}
 use Rattle.feed.specs.declared.Kind.{Kind}

@@ -27,8 +27,10 @@ use Rattle.ladder.specs.Code.Loading.{Met, met}
 use Rattle.feed.specs.Messages.{kindOf, onMarket, market, book, wrongSize, statusOf, listed}
 use Rattle.feed.specs.Feeds.{deaf, inPhase, nextIs, internalIs, heardAt, wholeIs, freshIs}
 use Rattle.feed.specs.Events.{Tables, Event, Connect, Arrive, Cut, timeOf, News, Linked, Message, cutFrom, news, onMessage, newsSize, offered}
-use Rattle.feed.specs.Answers.{number, arrives, lacksNeed, isMore, isNext, allowed, seen, ofBook, passed, lineTests, tableTests, tests, verdict, refusal}
-use Rattle.feed.specs.Steps.{enterLive, isFresh, loggedOn, clearsOn, clears, clearedIf, tablesAfter, does, advanced, counted, taken, act, accepted, usedOf, Outcome, lent, stateOf, outOf, answered, usedIs, handed, outcome, onTables}
+use Rattle.feed.specs.Answers.{number, arrives, lacksNeed, isMore, isNext, allowed, seen, ofBook, passed, lineTests, tableTests, tests}
+use Rattle.feed.specs.Code.Judging.{verdict, refusal}
+use Rattle.feed.specs.Steps.{enterLive, isFresh, loggedOn, clearsOn, clears, tablesAfter, does, advanced, counted, taken, act, accepted, usedOf, Outcome, lent, stateOf, outOf, handed, outcome}
+use Rattle.feed.specs.Code.Judging.{clearedIf, answered, usedIs, onTables}
 use Rattle.feed.specs.declared.Phase.the-variants.{WaitKey, WaitLogon, Lost, Closed}
 use Rattle.feed.specs.declared.Kind.{Kind}
 use Rattle.feed.specs.declared.Kind.the-variants.{Session, Market}

@@ -109,11 +109,3 @@ answerTo f x time n = first (tests f x time n) (Take 0)
 
 abbrev pub reply : State → Event → Answer
 reply s e = answerTo (s .feed) (s .tables) (timeOf e) (news e)
-
--- what the feed by itself makes of it: Take 0 where it leaves the answer to the tables
-abbrev pub verdict : Feed → ℕ → News → Answer
-verdict f time n = first (lineTests f time n) (Take 0)
-
--- 10 and 11 of an arrival, and 0 where it gets neither
-abbrev pub refusal : Feed → ℕ → ℕ
-refusal f time = cond (ltb time (f .heard)) 10 (cond (deaf (f .phase)) 11 0)

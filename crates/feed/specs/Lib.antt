@@ -4,3 +4,4 @@ pub mod Events
 pub mod Answers
 pub mod Steps
 pub mod Program
+pub mod Code

@@ -129,24 +129,12 @@ pub record Outcome : Type 0 where
 abbrev pub lent : List ℕ → Tables
 lent books = record { books = books }
 
--- the tables as they are left, cleared or not
-abbrev pub clearedIf : Bool → Tables → Tables
-clearedIf b x = cond b (clearedTables x) x
-
 -- a feed with tables, and what a call hands back with the tables after it
 abbrev pub stateOf : Feed → Tables → State
 stateOf f x = record { feed = f; tables = x }
 
 abbrev pub outOf : Given → Tables → Outcome
 outOf g x = record { given = g; tables = x }
-
--- an answer with no bytes used, and the feed after it
-abbrev pub answered : ℕ → Feed → Given
-answered n f = record { answer = n; used = 0; feed = f }
-
--- the same answer and feed, with other bytes used
-abbrev pub usedIs : ℕ → Given → Given
-usedIs n g = record { answer = g .answer; used = n; feed = g .feed }
 
 -- what an answer to a call comes to
 unfoldable pub handed : Answer → State → Event → Outcome
@@ -157,7 +145,3 @@ handed a s e = record {
 
 unfoldable pub outcome : State → Event → Outcome
 outcome s e = handed (reply s e) s e
-
--- the same where the feed by itself leaves the answer to the tables
-unfoldable pub onTables : State → Event → Outcome
-onTables s e = handed (first (tableTests (s .tables) (timeOf e) (news e)) (Take 0)) s e

@@ -10,7 +10,8 @@ ghost use mathlib.Core.Bool.{false, cond};
 ghost use Prim.Native.Nat.{_≤_};
 ghost use Rattle.feed.specs.Feeds.{inPhase, internalIs, heardAt, wholeIs};
 ghost use Rattle.feed.specs.Answers.{lastSeqNum};
-ghost use Rattle.feed.specs.Steps.{enterLive, advanced as advancedAt, counted, accepted, answered, usedIs};
+ghost use Rattle.feed.specs.Steps.{enterLive, advanced as advancedAt, counted, accepted};
+ghost use Rattle.feed.specs.Code.Judging.{answered, usedIs};
 
 // The feed with one thing changed, and the feed with an answer.
 impl Feed {

@@ -12,7 +12,8 @@ ghost use Prim.Native.Nat.{ℕ, _≤_};
 ghost use Rattle.feed.specs.Messages.{kind as kindIn};
 ghost use Rattle.feed.specs.Events.{Tables, Message};
 ghost use Rattle.feed.specs.Answers.{lastSeqNum};
-ghost use Rattle.feed.specs.Steps.{loggedOn, clearsOn, clears, clearedIf, taken, stateOf};
+ghost use Rattle.feed.specs.Steps.{loggedOn, clearsOn, clears, taken, stateOf};
+ghost use Rattle.feed.specs.Code.Judging.{clearedIf};
 
 // Whether a logon clears the tables, by its status and whether the last accepted connect was fresh.
 fn is_cleared_by(status: Status, fresh: bool) -> bool

@@ -12,7 +12,8 @@ use super::phases::is_phase;
 ghost use mathlib.Core.Path.{_≡_};
 ghost use Rattle.feed.specs.Messages.{kind as kindIn};
 ghost use Rattle.feed.specs.Events.{Message};
-ghost use Rattle.feed.specs.Answers.{allowed, seen, verdict as verdictOf, refusal as refusalOf};
+ghost use Rattle.feed.specs.Answers.{allowed, seen};
+ghost use Rattle.feed.specs.Code.Judging.{verdict as verdictOf, refusal as refusalOf};
 
 // Whether a session's message is allowed in a phase.
 fn is_session_allowed(session: Session, p: Phase) -> bool

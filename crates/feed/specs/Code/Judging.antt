@@ -1,0 +1,37 @@
+-- The parts in which the code judges and acts, lent no table and lent them. Assumes nothing.
+use Prim.Native.Nat.{ℕ}
+use mathlib.Core.Bool.{Bool, cond}
+use lib.Dec.{ltb}
+use Rattle.ground.specs.Choice.{first}
+use Rattle.feed.specs.Feeds.{deaf}
+use Rattle.feed.specs.Events.{Tables, clearedTables, State, Event, timeOf, News, news}
+use Rattle.feed.specs.Answers.{lineTests, tableTests}
+use Rattle.feed.specs.Steps.{Outcome, handed}
+use Rattle.feed.specs.declared.Feed.{Feed}
+use Rattle.feed.specs.declared.Given.{Given}
+use Rattle.feed.specs.declared.Answer.{Answer}
+use Rattle.feed.specs.declared.Answer.the-variants.{Take}
+
+-- what the feed by itself makes of it: Take 0 where it leaves the answer to the tables
+abbrev pub verdict : Feed → ℕ → News → Answer
+verdict f time n = first (lineTests f time n) (Take 0)
+
+-- 10 and 11 of an arrival, and 0 where it gets neither
+abbrev pub refusal : Feed → ℕ → ℕ
+refusal f time = cond (ltb time (f .heard)) 10 (cond (deaf (f .phase)) 11 0)
+
+-- the tables as they are left, cleared or not
+abbrev pub clearedIf : Bool → Tables → Tables
+clearedIf b x = cond b (clearedTables x) x
+
+-- an answer with no bytes used, and the feed after it
+abbrev pub answered : ℕ → Feed → Given
+answered n f = record { answer = n; used = 0; feed = f }
+
+-- the same answer and feed, with other bytes used
+abbrev pub usedIs : ℕ → Given → Given
+usedIs n g = record { answer = g .answer; used = n; feed = g .feed }
+
+-- what a call comes to where the feed by itself leaves the answer to the tables
+unfoldable pub onTables : State → Event → Outcome
+onTables s e = handed (first (tableTests (s .tables) (timeOf e) (news e)) (Take 0)) s e
