@@ -1,43 +1,207 @@
--- To unfold this is to unfold every definition that a case computes with. Assumes nothing.
+-- All definitions that compute, for the examples: written by tools/computes. Assumes nothing.
 use Prim.Native.Nat.{ℕ}
 use mathlib.Core.Option.{bind}
 use Rattle.ground.specs.Choice as ground-Choice
 use Rattle.wire.specs.Number as wire-Number
 use Rattle.wire.specs.Units as wire-Units
 use Rattle.slots.specs.Slots as slots-Slots
+use Rattle.ladder.specs.Code.Arrays as ladder-Code-Arrays
+use Rattle.ladder.specs.Code.Loading as ladder-Code-Loading
 use Rattle.ladder.specs.Message as ladder-Message
 use Rattle.ladder.specs.Sides as ladder-Sides
 use Rattle.ladder.specs.Walk as ladder-Walk
 use Rattle.ladder.specs.Words as ladder-Words
-use Rattle.ladder.specs.Code.Arrays as ladder-Code-Arrays
+use Rattle.books.specs.Reading as books-Reading
 use Rattle.books.specs.Table as books-Table
 use Rattle.books.specs.Turns as books-Turns
-use Rattle.books.specs.Reading as books-Reading
-use Rattle.feed.specs.Messages as feed-Messages
-use Rattle.feed.specs.Feeds as feed-Feeds
-use Rattle.feed.specs.Events as feed-Events
 use Rattle.feed.specs.Answers as feed-Answers
-use Rattle.feed.specs.Steps as feed-Steps
 use Rattle.feed.specs.Code.Judging as feed-Code-Judging
+use Rattle.feed.specs.Events as feed-Events
+use Rattle.feed.specs.Feeds as feed-Feeds
+use Rattle.feed.specs.Messages as feed-Messages
 use Rattle.feed.specs.Program as feed-Program
-use Rattle.promises.specs.Checks as Checks
-use Rattle.promises.specs.Build as Build
-use Rattle.promises.specs.Desk as Desk
-use Rattle.promises.specs.Section6 as Section6
-use Rattle.promises.specs.Answering as Answering
-use Rattle.promises.specs.Phases as Phases
-use Rattle.promises.specs.Statuses as Statuses
-use Rattle.promises.specs.Sizes as Sizes
-use Rattle.promises.specs.Entries as Entries
-use Rattle.promises.specs.Tables as Tables
-use Rattle.promises.specs.Traps as Traps
-use Rattle.promises.specs.Refusals as Refusals
-use Rattle.promises.specs.Runs as Runs
-use Rattle.promises.specs.Demands as Demands
-use Rattle.promises.specs.Ledger as Ledger
-use Rattle.promises.specs.GoodMorning as GoodMorning
-use Rattle.promises.specs.Mornings as Mornings
+use Rattle.feed.specs.Steps as feed-Steps
+use Rattle.promises.specs.Answering as promises-Answering
+use Rattle.promises.specs.Build as promises-Build
+use Rattle.promises.specs.Checks as promises-Checks
+use Rattle.promises.specs.Decisions as promises-Decisions
+use Rattle.promises.specs.Demands as promises-Demands
+use Rattle.promises.specs.Desk as promises-Desk
+use Rattle.promises.specs.Entries as promises-Entries
+use Rattle.promises.specs.GoodMorning as promises-GoodMorning
+use Rattle.promises.specs.Leaves as promises-Leaves
+use Rattle.promises.specs.Ledger as promises-Ledger
+use Rattle.promises.specs.Mornings as promises-Mornings
+use Rattle.promises.specs.Phases as promises-Phases
+use Rattle.promises.specs.Pieces as promises-Pieces
+use Rattle.promises.specs.Refusals as promises-Refusals
+use Rattle.promises.specs.Runs as promises-Runs
+use Rattle.promises.specs.Section6 as promises-Section6
+use Rattle.promises.specs.Sizes as promises-Sizes
+use Rattle.promises.specs.Statuses as promises-Statuses
+use Rattle.promises.specs.Tables as promises-Tables
+use Rattle.promises.specs.Traps as promises-Traps
+
+unfoldable ground-choice : ℕ
+unfolding ground-Choice.oneOf ground-Choice.pick ground-Choice.first ground-Choice.all
+ground-choice = 0
+
+unfoldable wire-number : ℕ
+unfolding wire-Number.field wire-Number.biased
+wire-number = 0
+
+unfoldable wire-units : ℕ
+unfolding wire-Units.unitOf
+wire-units = 0
+
+unfoldable slots-slots : ℕ
+unfolding slots-Slots.blocks slots-Slots.lowest slots-Slots.place slots-Slots.flat slots-Slots.cleared
+slots-slots = 0
+
+unfoldable ladder-code-arrays : ℕ
+unfolding ladder-Code-Arrays.fitsAt ladder-Code-Arrays.tenAfter ladder-Code-Arrays.countAfter
+ladder-code-arrays = 0
+
+unfoldable ladder-code-loading : ℕ
+unfolding ladder-Code-Loading.inOrder ladder-Code-Loading.usedOf ladder-Code-Loading.lowsOf ladder-Code-Loading.soundWords
+ladder-code-loading = 0
+
+unfoldable ladder-message : ℕ
+unfolding ladder-Message.entriesFrom ladder-Message.bookSized ladder-Message.listedSide ladder-Message.listedRank ladder-Message.listedCode ladder-Message.listedEntry ladder-Message.listedBook
+ladder-message = 0
+
+unfoldable ladder-sides : ℕ
+unfolding ladder-Sides.better ladder-Sides.has ladder-Sides.newFits ladder-Sides.newRows ladder-Sides.changeFits ladder-Sides.changeRows ladder-Sides.deleteFits ladder-Sides.deleteRows ladder-Sides.fits ladder-Sides.rowsAfter ladder-Sides.onSide
+ladder-sides = 0
+
+unfoldable ladder-walk : ℕ
+unfolding ladder-Walk.onBook ladder-Walk.walk
+ladder-walk = 0
+
+unfoldable ladder-words : ℕ
+unfolding ladder-Words.rowsFrom ladder-Words.noRows ladder-Words.sideWords ladder-Words.wordsOf ladder-Words.bestFirst ladder-Words.bounded ladder-Words.zeroRow ladder-Words.soundSide ladder-Words.sound
+ladder-words = 0
+
+unfoldable books-reading : ℕ
+unfolding books-Reading.noBook books-Reading.readAnswer books-Reading.readRow books-Reading.rowOfSide books-Reading.rowOfBook
+books-reading = 0
+
+unfoldable books-table : ℕ
+unfolding books-Table.unsoundAt books-Table.noneFree books-Table.bookAt books-Table.misfit books-Table.unsound books-Table.noSlot books-Table.misfits books-Table.bookAnswer books-Table.written books-Table.booksAfter
+books-table = 0
+
+unfoldable books-turns : ℕ
+unfolding books-Turns.slotMet books-Turns.placeMet
+books-turns = 0
+
+unfoldable feed-answers : ℕ
+unfolding feed-Answers.number feed-Answers.arrives feed-Answers.lacksNeed feed-Answers.isMore feed-Answers.isNext feed-Answers.allowed feed-Answers.seen feed-Answers.ofBook feed-Answers.passed feed-Answers.lineTests feed-Answers.tableTests feed-Answers.tests
+feed-answers = 0
+
+unfoldable feed-code-judging : ℕ
+unfolding feed-Code-Judging.onTables
+feed-code-judging = 0
+
+unfoldable feed-events : ℕ
+unfolding feed-Events.timeOf feed-Events.cutFrom feed-Events.news feed-Events.onMessage feed-Events.newsSize feed-Events.offered
+feed-events = 0
+
+unfoldable feed-feeds : ℕ
+unfolding feed-Feeds.is feed-Feeds.deaf feed-Feeds.listedLimit feed-Feeds.newGiven feed-Feeds.badge feed-Feeds.phaseOf
+feed-feeds = 0
+
+unfoldable feed-messages : ℕ
+unfolding feed-Messages.datumOf feed-Messages.kindOf feed-Messages.onMarket feed-Messages.market feed-Messages.book feed-Messages.sized feed-Messages.wrongSize feed-Messages.statusOf feed-Messages.listedStatus feed-Messages.listed
+feed-messages = 0
+
+unfoldable feed-program : ℕ
+unfolding feed-Program.follow feed-Program.sideLines feed-Program.lines
+feed-program = 0
+
+unfoldable feed-steps : ℕ
+unfolding feed-Steps.loggedOn feed-Steps.clearsOn feed-Steps.clears feed-Steps.tablesAfter feed-Steps.does feed-Steps.counted feed-Steps.taken feed-Steps.act feed-Steps.usedOf feed-Steps.handed feed-Steps.outcome
+feed-steps = 0
+
+unfoldable promises-answering : ℕ
+unfolding promises-Answering.oneCall promises-Answering.fed promises-Answering.lost promises-Answering.spoilt promises-Answering.heard promises-Answering.held promises-Answering.broken promises-Answering.taken promises-Answering.fits promises-Answering.misfits promises-Answering.unlisted promises-Answering.both promises-Answering.opens promises-Answering.newFeeds promises-Answering.connects promises-Answering.answers promises-Answering.cuts promises-Answering.order
+promises-answering = 0
+
+unfoldable promises-build : ℕ
+unfolding promises-Build.bytes promises-Build.joined promises-Build.unit promises-Build.heartbeat promises-Build.message promises-Build.sendKey promises-Build.logon promises-Build.logout promises-Build.refresh promises-Build.complete promises-Build.entry promises-Build.bookMessage promises-Build.fill promises-Build.row promises-Build.block promises-Build.feed promises-Build.state promises-Build.start promises-Build.arrives promises-Build.gets promises-Build.ends promises-Build.case promises-Build.logsOn
+promises-build = 0
+
+unfoldable promises-checks : ℕ
+unfolding promises-Checks.wrong promises-Checks.sameWords promises-Checks.sameFeed promises-Checks.sameGiven promises-Checks.sameBadges promises-Checks.sameEnd promises-Checks.runs promises-Checks.sameNumber promises-Checks.reads
+promises-checks = 0
+
+unfoldable promises-decisions : ℕ
+unfolding promises-Decisions.fitsDeed promises-Decisions.fitting
+promises-decisions = 0
+
+unfoldable promises-demands : ℕ
+unfolding promises-Demands.handsBytes promises-Demands.connects promises-Demands.letsIn promises-Demands.isLogon promises-Demands.logsOn
+promises-demands = 0
+
+unfoldable promises-desk : ℕ
+unfolding promises-Desk.example1 promises-Desk.words1 promises-Desk.tenEntries promises-Desk.tenRows promises-Desk.alone promises-Desk.next promises-Desk.live promises-Desk.spoilt promises-Desk.desk
+promises-desk = 0
+
+unfoldable promises-entries : ℕ
+unfolding promises-Entries.makes promises-Entries.not promises-Entries.bids promises-Entries.offers promises-Entries.news promises-Entries.changes promises-Entries.deletes promises-Entries.walks
+promises-entries = 0
+
+unfoldable promises-goodmorning : ℕ
+unfolding promises-GoodMorning.on promises-GoodMorning.withCode promises-GoodMorning.due promises-GoodMorning.again promises-GoodMorning.fits promises-GoodMorning.good promises-GoodMorning.fairNews promises-GoodMorning.fair promises-GoodMorning.afterLogon promises-GoodMorning.told promises-GoodMorning.says promises-GoodMorning.saidNews promises-GoodMorning.talk promises-GoodMorning.fairly
+promises-goodmorning = 0
+
+unfoldable promises-leaves : ℕ
+unfolding promises-Leaves.clearsBy promises-Leaves.clears promises-Leaves.clearing promises-Leaves.writing
+promises-leaves = 0
+
+unfoldable promises-ledger : ℕ
+unfolding promises-Ledger.enterStatus promises-Ledger.enterTaken promises-Ledger.enterAccepted promises-Ledger.enterCame promises-Ledger.enter promises-Ledger.keep promises-Ledger.upTo promises-Ledger.rising promises-Ledger.lastOf
+promises-ledger = 0
+
+unfoldable promises-mornings : ℕ
+unfolding promises-Mornings.twoBids promises-Mornings.better promises-Mornings.tenth promises-Mornings.logsOn promises-Mornings.day promises-Mornings.refilled promises-Mornings.allows promises-Mornings.forbids promises-Mornings.talks promises-Mornings.keeps promises-Mornings.resumed promises-Mornings.ledgers
+promises-mornings = 0
+
+unfoldable promises-phases : ℕ
+unfolding promises-Phases.units promises-Phases.left promises-Phases.barred promises-Phases.met promises-Phases.beats promises-Phases.paired promises-Phases.inIdle promises-Phases.inWaitKey promises-Phases.inWaitLogon promises-Phases.inRefreshing promises-Phases.inLive promises-Phases.inLost promises-Phases.inClosed promises-Phases.whole
+promises-phases = 0
+
+unfoldable promises-pieces : ℕ
+unfolding promises-Pieces.calls promises-Pieces.callsIn promises-Pieces.stream promises-Pieces.times
+promises-pieces = 0
+
+unfoldable promises-refusals : ℕ
+unfolding promises-Refusals.answersTo promises-Refusals.feedRefused
+promises-refusals = 0
+
+unfoldable promises-runs : ℕ
+unfolding promises-Runs.after promises-Runs.run promises-Runs.trace promises-Runs.noteStatus promises-Runs.noteTaken promises-Runs.noteNews promises-Runs.note promises-Runs.recall promises-Runs.green promises-Runs.perform promises-Runs.replay promises-Runs.settled promises-Runs.performOn promises-Runs.replayOn
+promises-runs = 0
+
+unfoldable promises-section6 : ℕ
+unfolding promises-Section6.turns promises-Section6.bidsFrom9730 promises-Section6.offersBefore promises-Section6.offersAfter1 promises-Section6.offersAfter5 promises-Section6.bidsBefore promises-Section6.bidsAfter3 promises-Section6.bidsAfter4 promises-Section6.eightBids promises-Section6.sixBids promises-Section6.section6
+promises-section6 = 0
+
+unfoldable promises-sizes : ℕ
+unfolding promises-Sizes.torn promises-Sizes.quiet promises-Sizes.withLength promises-Sizes.headed promises-Sizes.more promises-Sizes.heartbeats promises-Sizes.tiny promises-Sizes.wrongly promises-Sizes.sizes promises-Sizes.sequence
+promises-sizes = 0
+
+unfoldable promises-statuses : ℕ
+unfolding promises-Statuses.freshly promises-Statuses.resumed promises-Statuses.wiped promises-Statuses.logons promises-Statuses.others promises-Statuses.answered promises-Statuses.allStatuses
+promises-statuses = 0
+
+unfoldable promises-tables : ℕ
+unfolding promises-Tables.on promises-Tables.refused promises-Tables.firstBid promises-Tables.opened promises-Tables.wipes promises-Tables.other promises-Tables.lengths promises-Tables.slots promises-Tables.three promises-Tables.sounds promises-Tables.row-is promises-Tables.no-row promises-Tables.rows
+promises-tables = 0
+
+unfoldable promises-traps : ℕ
+unfolding promises-Traps.traps promises-Traps.mornings promises-Traps.sameLines promises-Traps.prints promises-Traps.example10 promises-Traps.line10 promises-Traps.programs promises-Traps.programs2 promises-Traps.asked promises-Traps.badges
+promises-traps = 0
 
 unfoldable pub computes : ℕ
-unfolding bind ground-Choice.oneOf ground-Choice.pick ground-Choice.first ground-Choice.all wire-Number.field wire-Number.biased wire-Units.unitOf slots-Slots.blocks slots-Slots.lowest slots-Slots.place slots-Slots.flat slots-Slots.cleared ladder-Message.entriesFrom ladder-Message.bookSized ladder-Message.listedSide ladder-Message.listedRank ladder-Message.listedCode ladder-Message.listedEntry ladder-Message.listedBook ladder-Sides.better ladder-Sides.has ladder-Sides.newFits ladder-Sides.newRows ladder-Sides.changeFits ladder-Sides.changeRows ladder-Sides.deleteFits ladder-Sides.deleteRows ladder-Sides.fits ladder-Sides.rowsAfter ladder-Sides.onSide ladder-Walk.onBook ladder-Walk.walk ladder-Words.rowsFrom ladder-Words.noRows ladder-Words.sideWords ladder-Words.wordsOf ladder-Words.bestFirst ladder-Words.bounded ladder-Words.zeroRow ladder-Words.soundSide ladder-Words.sound ladder-Code-Arrays.fitsAt books-Table.unsoundAt books-Table.noneFree books-Table.bookAt books-Table.misfit books-Table.unsound books-Table.noSlot books-Table.misfits books-Table.bookAnswer books-Table.written books-Table.booksAfter books-Turns.slotMet books-Turns.placeMet books-Reading.noBook books-Reading.readAnswer books-Reading.readRow books-Reading.rowOfSide books-Reading.rowOfBook feed-Messages.datumOf feed-Messages.kindOf feed-Messages.onMarket feed-Messages.market feed-Messages.book feed-Messages.sized feed-Messages.wrongSize feed-Messages.statusOf feed-Messages.listedStatus feed-Messages.listed feed-Feeds.is feed-Feeds.deaf feed-Feeds.listedLimit feed-Feeds.newGiven feed-Feeds.badge feed-Feeds.phaseOf feed-Events.timeOf feed-Events.cutFrom feed-Events.news feed-Events.onMessage feed-Events.newsSize feed-Events.offered feed-Answers.number feed-Answers.arrives feed-Answers.lacksNeed feed-Answers.isMore feed-Answers.isNext feed-Answers.allowed feed-Answers.seen feed-Answers.ofBook feed-Answers.passed feed-Answers.lineTests feed-Answers.tableTests feed-Answers.tests feed-Steps.loggedOn feed-Steps.clearsOn feed-Steps.clears feed-Steps.tablesAfter feed-Steps.does feed-Steps.counted feed-Steps.taken feed-Steps.act feed-Steps.usedOf feed-Steps.handed feed-Steps.outcome feed-Code-Judging.onTables feed-Program.follow feed-Program.sideLines feed-Program.lines Checks.wrong Checks.sameWords Checks.sameFeed Checks.sameGiven Checks.sameBadges Checks.sameEnd Checks.runs Checks.sameNumber Checks.reads Build.bytes Build.joined Build.unit Build.heartbeat Build.message Build.sendKey Build.logon Build.logout Build.refresh Build.complete Build.entry Build.bookMessage Build.fill Build.row Build.block Build.feed Build.state Build.start Build.arrives Build.gets Build.ends Build.case Build.logsOn Desk.example1 Desk.words1 Desk.tenEntries Desk.tenRows Desk.alone Desk.next Desk.live Desk.spoilt Desk.desk Section6.turns Section6.bidsFrom9730 Section6.offersBefore Section6.offersAfter1 Section6.offersAfter5 Section6.bidsBefore Section6.bidsAfter3 Section6.bidsAfter4 Section6.eightBids Section6.sixBids Section6.section6 Answering.oneCall Answering.fed Answering.lost Answering.spoilt Answering.heard Answering.held Answering.broken Answering.taken Answering.fits Answering.misfits Answering.unlisted Answering.both Answering.opens Answering.newFeeds Answering.connects Answering.answers Answering.cuts Answering.order Phases.units Phases.left Phases.barred Phases.met Phases.beats Phases.paired Phases.inIdle Phases.inWaitKey Phases.inWaitLogon Phases.inRefreshing Phases.inLive Phases.inLost Phases.inClosed Phases.whole Statuses.freshly Statuses.resumed Statuses.wiped Statuses.logons Statuses.others Statuses.answered Statuses.allStatuses Sizes.torn Sizes.quiet Sizes.withLength Sizes.headed Sizes.more Sizes.heartbeats Sizes.tiny Sizes.wrongly Sizes.sizes Sizes.sequence Entries.makes Entries.not Entries.bids Entries.offers Entries.news Entries.changes Entries.deletes Entries.walks Tables.on Tables.refused Tables.firstBid Tables.opened Tables.wipes Tables.other Tables.lengths Tables.slots Tables.three Tables.sounds Tables.row-is Tables.no-row Tables.rows Traps.traps Traps.mornings Traps.sameLines Traps.prints Traps.example10 Traps.line10 Traps.programs Traps.programs2 Traps.asked Traps.badges Refusals.answersTo Refusals.feedRefused Runs.after Runs.run Runs.trace Runs.noteStatus Runs.noteTaken Runs.noteNews Runs.note Runs.recall Runs.green Runs.perform Runs.replay Runs.settled Runs.performOn Runs.replayOn Demands.handsBytes Demands.isLogon Demands.connects Demands.letsIn Demands.logsOn Ledger.enterStatus Ledger.enterTaken Ledger.enterAccepted Ledger.enterCame Ledger.enter Ledger.keep Ledger.upTo Ledger.rising Ledger.lastOf GoodMorning.on GoodMorning.withCode GoodMorning.due GoodMorning.again GoodMorning.fits GoodMorning.good GoodMorning.fairNews GoodMorning.fair GoodMorning.afterLogon GoodMorning.told GoodMorning.says GoodMorning.saidNews GoodMorning.talk GoodMorning.fairly Mornings.twoBids Mornings.better Mornings.tenth Mornings.logsOn Mornings.day Mornings.refilled Mornings.allows Mornings.forbids Mornings.talks Mornings.keeps Mornings.resumed Mornings.ledgers
+unfolding bind ground-choice wire-number wire-units slots-slots ladder-code-arrays ladder-code-loading ladder-message ladder-sides ladder-walk ladder-words books-reading books-table books-turns feed-answers feed-code-judging feed-events feed-feeds feed-messages feed-program feed-steps promises-answering promises-build promises-checks promises-decisions promises-demands promises-desk promises-entries promises-goodmorning promises-leaves promises-ledger promises-mornings promises-phases promises-pieces promises-refusals promises-runs promises-section6 promises-sizes promises-statuses promises-tables promises-traps
 computes = 0
