@@ -18,6 +18,7 @@ use Rattle.ground.proofs.Choices.{first-may, first-skips}
 use Rattle.books.specs.Table.{unsound, noSlot, misfits, booksAfter}
 use Rattle.books.proofs.Frames.{books-own, books-slots, books-other, books-length, books-tail, book-sound-in}
 use Rattle.ladder.proofs.Orders.{price-once}
+use Rattle.ladder.specs.Walk.{Book}
 use Rattle.ladder.specs.declared.Way.the-variants.{Bid, Offer}
 use Rattle.books.specs.Reading.{readAnswer, readRow}
 use Rattle.books.specs.declared.RowRead.{RowRead}
@@ -170,10 +171,11 @@ sound limit n es h =
     (a, λ c. book-sound-in c (run (start limit n) es .tables .books) a)
 
 pub once : D.Once
-once limit n es h c i j ne =
-    let b = sound limit n es h .1 c in (
-      λ x y. price-once Bid (D.bookIn c (run (start limit n) es .tables .books) .bids) i j (b .bids .best) x y ne,
-      λ x y. price-once Offer (D.bookIn c (run (start limit n) es .tables .books) .offers) i j (b .offers .best) x y ne,
+once limit n es h c =
+    let b = sound limit n es h .1 c in
+    let book : Book = D.bookIn c (run (start limit n) es .tables .books) in (
+      λ i j ne x y. price-once Bid (book .bids) i j (b .bids .best) x y ne,
+      λ i j ne x y. price-once Offer (book .offers) i j (b .offers .best) x y ne,
     )
 
 pub green : D.Green

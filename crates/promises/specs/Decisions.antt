@@ -8,18 +8,20 @@ use Rattle.books.specs.Table.{noSlot, misfits}
 use Rattle.feed.specs.Events.{Tables, State, Event}
 use Rattle.feed.specs.Steps.{outcome}
 use Rattle.feed.specs.declared.Phase.the-variants.{Refreshing, Live}
-use Rattle.promises.specs.Runs.{zeroed, start, run, Deed, Took, history, perform}
+use Rattle.promises.specs.Runs.{zeroed, endOf, Deed, Took, tale, perform}
 
 -- 38. Whole: "No throughout Refreshing, and always yes in Live", in every run
 abbrev pub WholeInLive : Type 0
 WholeInLive =
     (limit n : ℕ) (es : List Event)
-    → (run (start limit n) es .feed .phase ≡ Refreshing → run (start limit n) es .feed .whole ≡ false)
-    × (run (start limit n) es .feed .phase ≡ Live → run (start limit n) es .feed .whole ≡ true)
+    → (endOf limit n es .feed .phase ≡ Refreshing → endOf limit n es .feed .whole ≡ false)
+    × (endOf limit n es .feed .phase ≡ Live → endOf limit n es .feed .whole ≡ true)
 
 -- "only entering Live sets it", of any feed and any table
 abbrev pub OnlyLiveSets : Type 0
-OnlyLiveSets = (s : State) (e : Event) → s .feed .whole ≡ false → outcome s e .given .feed .whole ≡ true → outcome s e .given .feed .phase ≡ Live
+OnlyLiveSets =
+    (s : State) (e : Event) → s .feed .whole ≡ false → outcome s e .given .feed .whole ≡ true
+    → outcome s e .given .feed .phase ≡ Live
 
 -- 104. Replay: "no replayed message misfits", and each finds a slot
 unfoldable pub fitsDeed : Deed → Tables → Bool
@@ -30,4 +32,4 @@ fitting [] x = true
 fitting (d ∷ ds) x = fitsDeed d x && fitting ds (perform d x)
 
 abbrev pub ReplayFits : Type 0
-ReplayFits = (limit n : ℕ) (es : List Event) → T (fitting (history (start limit n) es .deeds) (zeroed n))
+ReplayFits = (limit n : ℕ) (es : List Event) → T (fitting (tale limit n es .deeds) (zeroed n))

@@ -6,7 +6,7 @@ use mathlib.Core.List.{List, [], _∷_, _++_}
 use mathlib.Core.Logic.{_⊎_}
 use mathlib.Core.Option.{some}
 use lib.ListN.{length, drop, getD}
-use lib.Dec.{T, eqb}
+use lib.Dec.{T}
 use Rattle.ground.specs.Choice.{oneOf, all}
 use Rattle.wire.specs.Number.{bytesOnly}
 use Rattle.wire.specs.Units.{unitOf}
@@ -15,12 +15,13 @@ use Rattle.slots.specs.Slots.{slotCount, slotsOf}
 use Rattle.slots.specs.declared.Slot.the-variants.{Held, Free}
 use Rattle.ladder.specs.Message.{securityCode}
 use Rattle.ladder.specs.Sides.{noRow}
+use Rattle.ladder.specs.declared.Row.{Row}
 use Rattle.ladder.specs.Walk.{Book, emptyBook, bookAfter}
 use Rattle.ladder.specs.Words.{bookWidth, sound, SoundBook}
 use Rattle.books.specs.Table.{placeIn, block, bookAt}
 use Rattle.books.specs.Reading.{readRow}
 use Rattle.feed.specs.Messages.{kind, statusOf, logonStatus}
-use Rattle.feed.specs.Feeds.{newGiven, badgeNo, badgeOf}
+use Rattle.feed.specs.Feeds.{newGiven}
 use Rattle.feed.specs.Events.{State, Event, Connect, Arrive, Cut, Message, news, timeOf, onMessage}
 use Rattle.feed.specs.Answers.{number, tests}
 use Rattle.feed.specs.Steps.{accepted, Outcome, outcome}
@@ -31,8 +32,8 @@ use Rattle.feed.specs.declared.Session.the-variants.{SendKey, Logon, Logout, Re
 use Rattle.feed.specs.declared.Datum.the-variants as datum
 use Rattle.feed.specs.declared.Status.{Status}
 use Rattle.feed.specs.declared.Status.the-variants.{Opens, Refills, Stays, Closes, Unlisted}
-use Rattle.promises.specs.Refusals.{answersTo, refusal}
-use Rattle.promises.specs.Runs.{zeroed, start, after, run, trace, history, green, replay, replayOn}
+use Rattle.promises.specs.Refusals.{answersTo, ending, refusal}
+use Rattle.promises.specs.Runs.{zeroed, start, after, run, answerOf, trace, endOf, tale, isGreen, green, replay, replayOn}
 
 -- the rows of document 01's table of answers for a call
 abbrev pub rowsFor : State → Event → List (Bool × Answer)
@@ -40,7 +41,7 @@ rowsFor s e = tests (s .feed) (s .tables) (timeOf e) (news e)
 
 -- DEMAND 1. Any bytes, any table, any clock reading gets one of the numbered answers ..
 abbrev pub Listed : Type 0
-Listed = (s : State) (e : Event) → T (oneOf (outcome s e .given .answer) (answersTo e))
+Listed = (s : State) (e : Event) → T (oneOf (answerOf s e) (answersTo e))
 
 -- .. a new feed and reading a row too ..
 abbrev pub NewListed : Type 0
@@ -55,11 +56,13 @@ Tells [] n = n ≡ 0
 Tells (t ∷ ts) n = ((t .0 ≡ true) × (n ≡ number (t .1))) ⊎ ((t .0 ≡ false) × Tells ts n)
 
 abbrev pub Exactly : Type 0
-Exactly = (s : State) (e : Event) (n : ℕ) → (outcome s e .given .answer ≡ n → Tells (rowsFor s e) n) × (Tells (rowsFor s e) n → outcome s e .given .answer ≡ n)
+Exactly =
+    (s : State) (e : Event) (n : ℕ)
+    → (answerOf s e ≡ n → Tells (rowsFor s e) n) × (Tells (rowsFor s e) n → answerOf s e ≡ n)
 
 -- "A refused arrival writes nothing to the book table, and document 01 says what becomes of the feed"
 abbrev pub Refused : Type 0
-Refused = (s : State) (e : Event) → accepted (outcome s e .given .answer) ≡ false → outcome s e ≡ refusal (outcome s e .given .answer) s
+Refused = (s : State) (e : Event) → accepted (answerOf s e) ≡ false → outcome s e ≡ refusal (answerOf s e) s
 
 -- any two outcomes of a call are the same
 abbrev pub One : Type 0
@@ -76,7 +79,8 @@ Behind = (s : State) (a b : List ℕ) (time : ℕ) → (unitOf a ≡ unit.More �
 -- DEMAND 2. "A counted message is acted on only when its number is the next"
 abbrev pub Next : Type 0
 Next =
-    (s : State) (e : Event) (seq internal : ℕ) (m : List ℕ) → news e ≡ Message seq internal m → accepted (outcome s e .given .answer) ≡ true
+    (s : State) (e : Event) (seq internal : ℕ) (m : List ℕ) → news e ≡ Message seq internal m
+    → accepted (answerOf s e) ≡ true
     → (seq ≡ s .feed .next) × (seq ≤ 4294967295)
 
 -- the book of a code in a table
@@ -89,29 +93,37 @@ pub record Taken (s : State) (e : Event) (m : List ℕ) : Type 0 where
   pub internal : ℕ
   pub brings : news e ≡ Message seq internal m
   pub book : kind m ≡ Market datum.Book
-  pub zero : outcome s e .given .answer ≡ 0
+  pub zero : answerOf s e ≡ 0
+
+-- the words of the books before a call, and after it
+abbrev pub before : State → List ℕ
+before s = s .tables .books
+
+abbrev pub behind : State → Event → List ℕ
+behind s e = after s e .tables .books
 
 -- "A book message is applied entry by entry in order, whole": the code's book is then what all its entries make of it ..
 abbrev pub Whole : Type 0
 Whole =
     (s : State) (e : Event) (m : List ℕ) → Taken s e m
-    → bookAfter (timeOf e) m (bookIn (securityCode m) (s .tables .books)) ≡ some (bookIn (securityCode m) (after s e .tables .books))
+    → bookAfter (timeOf e) m (bookIn (securityCode m) (before s)) ≡ some (bookIn (securityCode m) (behind s e))
 
--- .. "and touches no other book": every slot but the one that the code has or takes, and every word behind the slots, is as it was
+-- .. "and touches no other book": every slot but the one that the code has or takes, every other code's book,
+-- and every word behind the slots, is as it was
 abbrev pub Others : Type 0
 Others =
     (s : State) (e : Event) (m : List ℕ) → Taken s e m
-    → ((j : ℕ) → (placeIn (securityCode m) (s .tables .books) ≡ Held j → ⊥) → (placeIn (securityCode m) (s .tables .books) ≡ Free j → ⊥)
-    → block j (after s e .tables .books) ≡ block j (s .tables .books))
-    × ((c : ℕ) → (securityCode m ≡ c → ⊥) → (c ≡ 0 → ⊥) → bookIn c (after s e .tables .books) ≡ bookIn c (s .tables .books))
-    × (length (after s e .tables .books) ≡ length (s .tables .books))
-    × (drop (bookWidth * slotCount bookWidth (length (s .tables .books))) (after s e .tables .books)
-    ≡ drop (bookWidth * slotCount bookWidth (length (s .tables .books))) (s .tables .books))
+    → ((j : ℕ) → (placeIn (securityCode m) (before s) ≡ Held j → ⊥) → (placeIn (securityCode m) (before s) ≡ Free j → ⊥)
+    → block j (behind s e) ≡ block j (before s))
+    × ((c : ℕ) → (securityCode m ≡ c → ⊥) → (c ≡ 0 → ⊥) → bookIn c (behind s e) ≡ bookIn c (before s))
+    × (length (behind s e) ≡ length (before s))
+    × (drop (bookWidth * slotCount bookWidth (length (before s))) (behind s e)
+    ≡ drop (bookWidth * slotCount bookWidth (length (before s))) (before s))
 
 -- DEMAND 3, of every run from a new feed of any limit and n zero words.
 -- "the table is what replaying from empty, in order, the book messages taken since the last clearing gives"
 abbrev pub Replayed : Type 0
-Replayed = (limit n : ℕ) (es : List Event) → run (start limit n) es .tables ≡ replay (history (start limit n) es .deeds) (zeroed n)
+Replayed = (limit n : ℕ) (es : List Event) → endOf limit n es .tables ≡ replay (tale limit n es .deeds) (zeroed n)
 
 -- what is handed in are bytes (the one thing assumed; of a slice of bytes it is a fact)
 unfoldable pub handsBytes : Event → Bool
@@ -126,33 +138,35 @@ Bytes es = T (all handsBytes es)
 abbrev pub BookByBook : Type 0
 BookByBook =
     (limit n : ℕ) (es : List Event) → Bytes es → (c : ℕ) → (c ≡ 0 → ⊥)
-    → bookIn c (run (start limit n) es .tables .books) ≡ replayOn c (history (start limit n) es .deeds) emptyBook
+    → bookIn c (endOf limit n es .tables .books) ≡ replayOn c (tale limit n es .deeds) emptyBook
 
 -- "Each side has at most ten rows, best first, no price twice": every slot is sound, and so is every code's book
 abbrev pub Sound : Type 0
 Sound =
     (limit n : ℕ) (es : List Event) → Bytes es
-    → (all sound (slotsOf bookWidth (run (start limit n) es .tables .books)) ≡ true)
-    × ((c : ℕ) → SoundBook (bookIn c (run (start limit n) es .tables .books)))
+    → (all sound (slotsOf bookWidth (endOf limit n es .tables .books)) ≡ true)
+    × ((c : ℕ) → SoundBook (bookIn c (endOf limit n es .tables .books)))
 
 -- no price twice on a side, for any two ranks
+abbrev pub NoPriceTwice : List Row → Type 0
+NoPriceTwice s =
+    (i j : ℕ) → (i ≡ j → ⊥) → i < length s → j < length s → getD s i noRow .price ≡ getD s j noRow .price → ⊥
+
 abbrev pub Once : Type 0
 Once =
-    (limit n : ℕ) (es : List Event) → Bytes es → (c i j : ℕ) → (i ≡ j → ⊥)
-    → (i < length (bookIn c (run (start limit n) es .tables .books) .bids) → j < length (bookIn c (run (start limit n) es .tables .books) .bids)
-    → getD (bookIn c (run (start limit n) es .tables .books) .bids) i noRow .price ≡ getD (bookIn c (run (start limit n) es .tables .books) .bids) j noRow .price → ⊥)
-    × (i < length (bookIn c (run (start limit n) es .tables .books) .offers) → j < length (bookIn c (run (start limit n) es .tables .books) .offers)
-    → getD (bookIn c (run (start limit n) es .tables .books) .offers) i noRow .price ≡ getD (bookIn c (run (start limit n) es .tables .books) .offers) j noRow .price → ⊥)
+    (limit n : ℕ) (es : List Event) → Bytes es → (c : ℕ)
+    → NoPriceTwice (bookIn c (endOf limit n es .tables .books) .bids)
+    × NoPriceTwice (bookIn c (endOf limit n es .tables .books) .offers)
 
 -- so 18 never comes in such a run
 abbrev pub Never18 : Type 0
-Never18 = (limit n : ℕ) (es : List Event) (e : Event) → Bytes es → outcome (run (start limit n) es) e .given .answer ≡ 18 → ⊥
+Never18 = (limit n : ℕ) (es : List Event) (e : Event) → Bytes es → answerOf (endOf limit n es) e ≡ 18 → ⊥
 
 -- "The badge is green exactly when" the history says so
 abbrev pub Green : Type 0
 Green =
     (limit n : ℕ) (es : List Event) (time : ℕ)
-    → eqb (badgeNo (badgeOf (run (start limit n) es .feed) time)) 1 ≡ green (history (start limit n) es) (start limit n .feed .limit) time
+    → isGreen (endOf limit n es) time ≡ green (tale limit n es) (start limit n .feed .limit) time
 
 -- THE MORNING OF THE INCIDENT. After a lost message (or any arrival answered 12 to 18) the badge is not green at any time,
 -- whatever comes, as long as no connect is accepted
@@ -166,16 +180,16 @@ connects p = accepted (p .1) && isConnect (p .0)
 
 -- an event answered 12 to 18
 abbrev pub Fails : ℕ → ℕ → List Event → Event → Type 0
-Fails limit n es e = T (oneOf (outcome (run (start limit n) es) e .given .answer) (12 ∷ 13 ∷ 14 ∷ 15 ∷ 16 ∷ 17 ∷ 18 ∷ []))
+Fails limit n es e = T (oneOf (answerOf (endOf limit n es) e) ending)
 
 -- none of the events fs that follow es and e, with their answers, passes a test
 abbrev pub NoneOf : (Event × ℕ → Bool) → ℕ → ℕ → List Event → Event → List Event → Type 0
-NoneOf test limit n es e fs = T (all (λ p. not (test p)) (trace (after (run (start limit n) es) e) fs))
+NoneOf test limit n es e fs = T (all (λ p. not (test p)) (trace (after (endOf limit n es) e) fs))
 
 abbrev pub LostStaysDark : Type 0
 LostStaysDark =
     (limit n : ℕ) (es : List Event) (e : Event) (fs : List Event) (time : ℕ) → Fails limit n es e → NoneOf connects limit n es e fs
-    → eqb (badgeNo (badgeOf (run (start limit n) (es ++ (e ∷ fs)) .feed) time)) 1 ≡ false
+    → isGreen (endOf limit n (es ++ (e ∷ fs))) time ≡ false
 
 -- and it is not green either, connects or not, before a logon is accepted: "only 0, 2 and 101 are an accepted logon"
 unfoldable pub letsIn : Status → Bool
@@ -200,10 +214,11 @@ logsOn p = accepted (p .1) && onMessage (λ seq internal m. isLogon (kind m) m) 
 abbrev pub DarkBeforeLogon : Type 0
 DarkBeforeLogon =
     (limit n : ℕ) (es : List Event) (e : Event) (fs : List Event) (time : ℕ) → Fails limit n es e → NoneOf logsOn limit n es e fs
-    → eqb (badgeNo (badgeOf (run (start limit n) (es ++ (e ∷ fs)) .feed) time)) 1 ≡ false
+    → isGreen (endOf limit n (es ++ (e ∷ fs))) time ≡ false
 
--- when the line goes quiet, the badge is not green at any time more than the limit after the last connect or arrival that was accepted, nor before it
+-- when the line goes quiet, the badge is not green at any time more than the limit after the last connect or arrival
+-- that was accepted, nor before it
 abbrev pub Quiet : Type 0
 Quiet =
-    (limit n : ℕ) (es : List Event) (time : ℕ) → eqb (badgeNo (badgeOf (run (start limit n) es .feed) time)) 1 ≡ true
-    → (history (start limit n) es .heard ≤ time) × (time ≤ history (start limit n) es .heard + start limit n .feed .limit)
+    (limit n : ℕ) (es : List Event) (time : ℕ) → isGreen (endOf limit n es) time ≡ true
+    → (tale limit n es .heard ≤ time) × (time ≤ tale limit n es .heard + start limit n .feed .limit)

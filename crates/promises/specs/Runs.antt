@@ -9,7 +9,7 @@ use Rattle.ground.specs.Choice.{oneOf}
 use Rattle.ladder.specs.Message.{securityCode}
 use Rattle.ladder.specs.Walk.{Book, bookAfter}
 use Rattle.feed.specs.Messages.{kind, statusOf, logonStatus}
-use Rattle.feed.specs.Feeds.{newGiven}
+use Rattle.feed.specs.Feeds.{newGiven, badgeNo, badgeOf}
 use Rattle.feed.specs.Events.{Tables, State, Event, News, Linked, More, Heartbeat, Message, news, timeOf}
 use Rattle.feed.specs.Steps.{isFresh, tablesAfter, accepted, outcome}
 use Rattle.feed.specs.declared.Kind.{Kind}
@@ -36,10 +36,14 @@ unfoldable pub run : State → List Event → State
 run s [] = s
 run s (e ∷ es) = run (after s e) es
 
+-- the number that an event is answered
+abbrev pub answerOf : State → Event → ℕ
+answerOf s e = outcome s e .given .answer
+
 -- the events with the numbers they were answered
 unfoldable pub trace : State → List Event → List (Event × ℕ)
 trace s [] = []
-trace s (e ∷ es) = (e, outcome s e .given .answer) ∷ trace (after s e) es
+trace s (e ∷ es) = (e, answerOf s e) ∷ trace (after s e) es
 
 -- a book message taken at a time
 pub data Deed : Type 0 where
@@ -122,6 +126,17 @@ recall h (p ∷ ps) = recall (note h (p .0) (p .1)) ps
 -- the history of a run
 abbrev pub history : State → List Event → History
 history s es = recall noHistory (trace s es)
+
+-- a run from a new feed and n zero words: where it ends, and what its events and answers tell
+abbrev pub endOf : ℕ → ℕ → List Event → State
+endOf limit n es = run (start limit n) es
+
+abbrev pub tale : ℕ → ℕ → List Event → History
+tale limit n es = history (start limit n) es
+
+-- whether the badge is green at a time
+abbrev pub isGreen : State → ℕ → Bool
+isGreen s time = eqb (badgeNo (badgeOf (s .feed) time)) 1
 
 -- "green exactly when the last accepted connect has led to an accepted logon, with its refresh complete if one was called for, no accepted logout
 -- and no arrival answered 12 to 18 has come since, and the time asked about lies from zero to the silence limit after the last connect or arrival accepted"

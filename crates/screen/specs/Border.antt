@@ -2,7 +2,7 @@
 -- small letter. Assumes nothing.
 use Prim.Native.Nat.{ℕ}
 use mathlib.Core.Path.{_≡_}
-use mathlib.Core.Bool.{true}
+use mathlib.Core.Bool.{Bool, true}
 use mathlib.Core.List.{List, [], _∷_}
 use lib.ListN.{length, replicate}
 use lib.Dec.{T, eqb}
@@ -74,25 +74,30 @@ abbrev pub PlainListed : Type 0
 PlainListed = (f : MmdhFeed) (t : List ℕ) (c : Call) → T (oneOf (handsBack f t c .given .answer) (answersTo (eventOf c)))
 
 -- what the calls and the answers that they handed back tell
-abbrev pub told : ℕ → ℕ → List Call → History
-told limit n cs = recall noHistory (plainTrace (plainStart limit n) cs)
+abbrev pub plainTale : ℕ → ℕ → List Call → History
+plainTale limit n cs = recall noHistory (plainTrace (plainStart limit n) cs)
 
-abbrev pub counted : ℕ → ℕ → List Call → Ledger
-counted limit n cs = keep noHistory noLedger (plainTrace (plainStart limit n) cs)
+abbrev pub plainLedger : ℕ → ℕ → List Call → Ledger
+plainLedger limit n cs = keep noHistory noLedger (plainTrace (plainStart limit n) cs)
+
+-- whether mmdh_badge says green, of what a screen keeps
+abbrev pub saysGreen : Held → ℕ → Bool
+saysGreen x time = eqb (plainBadge (x .feed .phase) (x .feed .heard) (x .feed .limit) time) 1
 
 -- DEMAND 2 of them: while mmdh_badge says green, every counted message that came since the connect has been met, in its order, none left out
 abbrev pub PlainNoneLeftOut : Type 0
 PlainNoneLeftOut =
     (limit n : ℕ) (cs : List Call) (time : ℕ)
-    → eqb (plainBadge (plainRun (plainStart limit n) cs .feed .phase) (plainRun (plainStart limit n) cs .feed .heard) (plainRun (plainStart limit n) cs .feed .limit) time) 1 ≡ true
-    → (counted limit n cs .came ≡ counted limit n cs .met) × (counted limit n cs .met ≡ upTo (length (counted limit n cs .met)))
+    → saysGreen (plainRun (plainStart limit n) cs) time ≡ true
+    → (plainLedger limit n cs .came ≡ plainLedger limit n cs .met)
+    × (plainLedger limit n cs .met ≡ upTo (length (plainLedger limit n cs .met)))
 
 -- DEMAND 3 of them: the words are the replay, and mmdh_badge is green exactly when what the calls and their answers tell says so
 abbrev pub PlainReplayed : Type 0
-PlainReplayed = (limit n : ℕ) (cs : List Call) → plainRun (plainStart limit n) cs .books ≡ replay (told limit n cs .deeds) (zeroed n) .books
+PlainReplayed = (limit n : ℕ) (cs : List Call) → plainRun (plainStart limit n) cs .books ≡ replay (plainTale limit n cs .deeds) (zeroed n) .books
 
 abbrev pub PlainGreen : Type 0
 PlainGreen =
     (limit n : ℕ) (cs : List Call) (time : ℕ)
-    → eqb (plainBadge (plainRun (plainStart limit n) cs .feed .phase) (plainRun (plainStart limit n) cs .feed .heard) (plainRun (plainStart limit n) cs .feed .limit) time) 1
-    ≡ green (told limit n cs) (plainStart limit n .feed .limit) time
+    → saysGreen (plainRun (plainStart limit n) cs) time
+    ≡ green (plainTale limit n cs) (plainStart limit n .feed .limit) time
