@@ -14,7 +14,7 @@ use Rattle.feed.specs.declared.Link.the-variants.{Fresh, Resuming}
 use Rattle.feed.specs.declared.Feed.{Feed}
 use Rattle.feed.specs.declared.Given.{Given}
 use Rattle.screen.specs.Plain.{yes, bit, linkOf, feedOf, plainFeed, plainGiven, plainOut, plainOutcome, plainRow}
-use Rattle.screen.specs.Border.{handsBack, Connects}
+use Rattle.screen.specs.Calls.{handsBack, Connects}
 use Rattle.books.specs.declared.RowRead.{RowRead}
 use Rattle.screen.specs.declared.MmdhRow.{MmdhRow}
 use Rattle.screen.specs.declared.MmdhFeed.{MmdhFeed}

@@ -5,7 +5,7 @@ ghost use mathlib.Core.List.{List};
 ghost use Rattle.books.specs.Reading.{readRow};
 ghost use Rattle.feed.specs.Feeds.{newGiven, plainBadge};
 ghost use Rattle.screen.specs.Plain.{yes, bit, linkOf, feedOf, plainFeed, plainGiven, plainOut, plainRow};
-ghost use Rattle.screen.specs.Border.{Connects, Arrives, ArrivesCut, handsBack};
+ghost use Rattle.screen.specs.Calls.{Connects, Arrives, ArrivesCut, handsBack};
 use books::RowRead;
 use feed::Feed;
 use feed::Given;

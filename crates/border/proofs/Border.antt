@@ -13,10 +13,11 @@ use Rattle.promises.specs.Runs.{start, after, run, trace, noHistory, recall}
 use Rattle.promises.specs.Ledger.{Ledger, noLedger, keep}
 use Rattle.promises.proofs.Demands as D
 use Rattle.promises.proofs.NoHole as N
 use Rattle.screen.specs.Plain.{yes, bit, feedOf, plainFeed, plainOutcome}
-use Rattle.screen.specs.Border as C
-use Rattle.screen.specs.Border.{Call, eventOf, Held, plainStart, plainAfter, plainRun, plainTrace, eventsOf}
+use Rattle.border.specs.Border as C
+use Rattle.screen.specs.Calls.{Call, eventOf, handsBack}
+use Rattle.border.specs.Border.{Held, plainStart, plainAfter, plainRun, plainTrace, eventsOf}
 use Rattle.screen.specs.declared.MmdhFeed.{MmdhFeed}
 
 bit-back : (b : Bool) → yes (bit b) ≡ b
 unfolding yes bit
@@ -38,7 +39,7 @@ comesBack f = λ i. record {
 abbrev plain : State → Held
 plain s = record { feed = plainFeed (s .feed); books = s .tables .books }
 
-same-out : (s : State) (c : Call) → C.handsBack (plain s .feed) (plain s .books) c ≡ plainOutcome (outcome s (eventOf c))
+same-out : (s : State) (c : Call) → handsBack (plain s .feed) (plain s .books) c ≡ plainOutcome (outcome s (eventOf c))
 same-out s c = ap (λ (f : Feed). plainOutcome (outcome (stateOf f (s .tables)) (eventOf c))) (comesBack (s .feed))
 
 step-is : (s : State) (c : Call) → plainAfter (plain s) c ≡ plain (after s (eventOf c))

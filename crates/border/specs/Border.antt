@@ -8,29 +8,14 @@ use lib.ListN.{length, replicate}
 use lib.Dec.{T, eqb}
 use Rattle.ground.specs.Choice.{oneOf}
 use Rattle.feed.specs.Feeds.{newGiven, plainBadge}
-use Rattle.feed.specs.Events.{State, Event, Connect, Arrive, Cut}
-use Rattle.feed.specs.Steps.{lent, stateOf, Outcome, outcome}
+use Rattle.feed.specs.Events.{Event}
 use Rattle.feed.specs.declared.Feed.{Feed}
 use Rattle.promises.specs.Runs.{zeroed, start, run, trace, History, noHistory, recall, green, replay}
 use Rattle.promises.specs.Refusals.{answersTo}
 use Rattle.promises.specs.Ledger.{Ledger, noLedger, keep, upTo}
-use Rattle.screen.specs.Plain.{linkOf, feedOf, plainFeed, plainGiven, PlainOut, plainOut, plainOutcome}
+use Rattle.screen.specs.Plain.{feedOf, plainFeed, plainGiven}
+use Rattle.screen.specs.Calls.{Call, eventOf, handsBack}
 use Rattle.screen.specs.declared.MmdhFeed.{MmdhFeed}
-
--- the calls that change a feed, by what is handed to them
-pub data Call : Type 0 where
-  Connects : (resuming time : ℕ) → Call
-  Arrives : (bytes : List ℕ) (time : ℕ) → Call
-  ArrivesCut : (seq internal : ℕ) (message : List ℕ) (time : ℕ) → Call
-
-abbrev pub eventOf : Call → Event
-eventOf (Connects resuming time) = Connect (linkOf resuming) time
-eventOf (Arrives bytes time) = Arrive bytes time
-eventOf (ArrivesCut seq internal m time) = Cut seq internal m time
-
--- what a call hands back for any seven numbers, with the words after it: mmdh_connect, mmdh_arrive, mmdh_arrive_cut, by their contracts
-abbrev pub handsBack : MmdhFeed → List ℕ → Call → PlainOut
-handsBack f t c = plainOutcome (outcome (stateOf (feedOf f) (lent t)) (eventOf c))
 
 -- what a screen keeps: the numbers last handed back, and its words
 pub record Held : Type 0 where
