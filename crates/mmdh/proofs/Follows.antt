@@ -13,7 +13,7 @@ use Rattle.feed.specs.Steps.{Outcome, accepted, outcome}
 use Rattle.feed.specs.Program.{bufferSize, Stand, follow}
 use Rattle.feed.proofs.Laws.{used-fits}
 use Rattle.feed.proofs.Following.{keeps, used-some, stays}
-use Rattle.mmdh.specs.Runs.{runFrom}
+use Rattle.mmdh.specs.Code.Runs.{runFrom}
 
 -- where a run stands after a call that is accepted, and after one that is not
 abbrev pub onward : ℕ → Outcome → Stand

@@ -19,8 +19,9 @@ use Rattle.feed.specs.Program.{connection}
 use Rattle.feed.specs.declared.Given.{Given}
 use Rattle.feed.specs.declared.Link.the-variants.{Fresh}
 use Rattle.feed.proofs.Laws.{used-fits}
-use Rattle.mmdh.specs.Runs.{Within, left, Called}
+use Rattle.mmdh.specs.Code.Runs.{Within, left, Called}
 use Rattle.mmdh.specs.declared.Run.{Run}
+use Rattle.mmdh.specs.Code.Rooms.{slots}
 
 -- the feed of a fresh connect is that of Program
 pub connects : (new given : Given) → new ≡ newGiven 1000
@@ -28,7 +29,7 @@ pub connects : (new given : Given) → new ≡ newGiven 1000
     → given .feed ≡ connection .feed
 unfolding newGiven listedLimit outcome handed choice.first
 connects new given e h =
-    let x : Tables = record { books = replicate (128 * bookWidth) 0 } in
+    let x : Tables = record { books = replicate (slots * bookWidth) 0 } in
     ap (λ (o : Outcome). o .given .feed) (h x) ∙ ap (λ (n : Given). outcome (record { feed = n .feed; tables = x }) (Connect Fresh 0) .given .feed) e
 
 module _ (r : Run) (buf t u : List ℕ) (g : Given) (w : Within r buf) (e : outOf g (lent u) ≡ outcome (stateOf (r .feed) (lent t)) (Arrive (left r buf) 0)) where

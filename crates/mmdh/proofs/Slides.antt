@@ -9,7 +9,7 @@ use lib.ListN.{length, take, drop, set, getD, length-set, length-drop}
 use lib.Seq.{take-suc, take-suc-set, take-take, take-at, length-take-le, drop-set-lt, drop-drop, getD-drop}
 use lib.Dec.{leb}
 use Rattle.feed.specs.Program.{bufferSize}
-use Rattle.mmdh.specs.Runs.{Within, left, Refilled}
+use Rattle.mmdh.specs.Code.Runs.{Within, left, Refilled}
 use Rattle.mmdh.specs.declared.Run.{Run}
 
 -- i bytes from a place on stand at the front, and those after them are as they were

@@ -16,11 +16,12 @@ use Rattle.wire.specs.Number.{bias}
 use Rattle.slots.specs.Slots.{slotsOf, codeOf}
 use Rattle.slots.proofs.Blocks.{block-at, length-blocks}
 use Rattle.ladder.specs.Sides.{noRow}
-use Rattle.ladder.specs.Words.{rowOf, rowsFrom}
+use Rattle.ladder.specs.Words.{rowOf, rowsFrom, bookWidth, sideWidth, offersAt, bidsAt}
 use Rattle.ladder.specs.declared.Row.{Row}
 use Rattle.ladder.proofs.Loads.{rows-ten, row-is}
-use Rattle.feed.specs.Program.{Line, sideLines, lines}
-use Rattle.mmdh.specs.Text.{digitsOf, decimal, signed, letter, space, headText, lineOf, lineText, linesText, endText, shown, text, Put}
+use Rattle.feed.specs.Program.{Line, sideLines, lines, tableWords}
+use Rattle.mmdh.specs.Text.{digitsOf, decimal, signed, letter, space, headText, lineText, linesText, endText, text}
+use Rattle.mmdh.specs.Code.Rooms.{lineOf, shown, Put, sideRoom, bookRoom, booksRoom, textRoom, lineRoom, endRoom, priceRoom, numberRoom, headRoom, slots}
 use Rattle.mmdh.proofs.Laws.{few}
 
 -- one text behind another
@@ -106,20 +107,20 @@ pub number-fits : (n k : ℕ) (d : List ℕ) → n < 18446744073709551616 → Fe
 number-fits n k d h f = rw length-take (omega (arith, few n k h f))
 
 pub number-put : (n k after at j r : ℕ) (d x y z : List ℕ) → n < 18446744073709551616 → Fewest 10 1 n k → take k d ≡ digits 10 k n
-    → Put (take k d) (length (take k d)) at x y j → Put (after ∷ []) 1 j y z r → Put (decimal n ++ (after ∷ [])) 21 at x z r
+    → Put (take k d) (length (take k d)) at x y j → Put (after ∷ []) 1 j y z r → Put (decimal n ++ (after ∷ [])) numberRoom at x z r
 number-put n k after at j r d x y z h f e p q =
-    same-text (take k d ++ (after ∷ [])) (decimal n ++ (after ∷ [])) x z (length (take k d) + 1) 21 at r (behind _ _ x y z _ 1 at j r p q)
+    same-text (take k d ++ (after ∷ [])) (decimal n ++ (after ∷ [])) x z (length (take k d) + 1) numberRoom at r (behind _ _ x y z _ 1 at j r p q)
     (ap (λ (l : List ℕ). l ++ (after ∷ [])) (e ∙ decimal-is n k f)) (omega (arith, number-fits n k d h f))
 
-pub price-below : (word at j r : ℕ) (x y z : List ℕ) → word < 2147483648 → Put (45 ∷ []) 1 at x y j → Put (decimal (2147483648 - word) ++ (32 ∷ [])) 21 j y z r
-    → Put (signed (subℕ word bias) ++ space) 22 at x z r
+pub price-below : (word at j r : ℕ) (x y z : List ℕ) → word < 2147483648 → Put (45 ∷ []) 1 at x y j → Put (decimal (2147483648 - word) ++ (32 ∷ [])) numberRoom j y z r
+    → Put (signed (subℕ word bias) ++ space) priceRoom at x z r
 price-below word at j r x y z h p q =
     let e : bias - suc word + 1 ≡ 2147483648 - word = omega arith in
-    rw (lt-ltb word bias h, e) (behind (45 ∷ []) _ x y z 1 21 at j r p q)
+    rw (lt-ltb word bias h, e) (behind (45 ∷ []) _ x y z 1 numberRoom at j r p q)
 
-pub price-above : (word at r : ℕ) (x z : List ℕ) → 2147483648 ≤ word → Put (decimal (word - 2147483648) ++ (32 ∷ [])) 21 at x z r
-    → Put (signed (subℕ word bias) ++ space) 22 at x z r
-price-above word at r x z h p = rw (le-ltb word bias h) (same-text _ _ x z 21 22 at r p refl (omega arith))
+pub price-above : (word at r : ℕ) (x z : List ℕ) → 2147483648 ≤ word → Put (decimal (word - 2147483648) ++ (32 ∷ [])) numberRoom at x z r
+    → Put (signed (subℕ word bias) ++ space) priceRoom at x z r
+price-above word at r x z h p = rw (le-ltb word bias h) (same-text _ _ x z numberRoom priceRoom at r p refl (omega arith))
 
 pub letter-bids : (side : ℕ) → side ≡ 0 → 66 ≡ letter side
 letter-bids side e = rw (eq-eqb side 0 e)
@@ -128,14 +129,14 @@ pub letter-offers : (side : ℕ) → (side ≡ 0 → ⊥) → 79 ≡ letter side
 letter-offers side e = rw (ne-eqb side 0 e)
 
 pub row-put : (code side rank l at a b c d e f r : ℕ) (row : Row) (o p q s t u v w : List ℕ) → l ≡ letter side
-    → Put (decimal code ++ (32 ∷ [])) 21 at o p a
+    → Put (decimal code ++ (32 ∷ [])) numberRoom at o p a
     → Put (l ∷ []) 1 a p q b
     → Put (32 ∷ []) 1 b q s c
-    → Put (decimal rank ++ (32 ∷ [])) 21 c s t d
-    → Put (signed (subℕ (row .price) bias) ++ space) 22 d t u e
-    → Put (decimal (row .quantity) ++ (32 ∷ [])) 21 e u v f
-    → Put (decimal (row .orders) ++ (10 ∷ [])) 21 f v w r
-    → Put (lineText (lineOf code side rank row)) 108 at o w r
+    → Put (decimal rank ++ (32 ∷ [])) numberRoom c s t d
+    → Put (signed (subℕ (row .price) bias) ++ space) priceRoom d t u e
+    → Put (decimal (row .quantity) ++ (32 ∷ [])) numberRoom e u v f
+    → Put (decimal (row .orders) ++ (10 ∷ [])) numberRoom f v w r
+    → Put (lineText (lineOf code side rank row)) lineRoom at o w r
 unfolding lineText
 row-put code side rank l at a b c d e f r row o p q s t u v w k h₁ h₂ h₃ h₄ h₅ h₆ h₇ =
     let p₂ = behind _ _ o p q _ _ at a b h₁ h₂ in
@@ -143,7 +144,7 @@ row-put code side rank l at a b c d e f r row o p q s t u v w k h₁ h₂ h₃ h
     let p₄ = behind _ _ o s t _ _ at c d p₃ h₄ in
     let p₅ = behind _ _ o t u _ _ at d e p₄ h₅ in
     let p₆ = behind _ _ o u v _ _ at e f p₅ h₆ in
-    same-text _ _ o w 108 108 at r (behind _ _ o v w _ _ at f r p₆ h₇) (rw k (simp append-assoc)) (omega arith)
+    same-text _ _ o w lineRoom lineRoom at r (behind _ _ o v w _ _ at f r p₆ h₇) (rw k (simp append-assoc)) (omega arith)
 
 -- lines, one list behind another
 lines-behind : (a b : List Line) → linesText (a ++ b) ≡ linesText a ++ linesText b
@@ -168,12 +169,12 @@ pub record Siding (words : List ℕ) (side base n at : ℕ) (old : List ℕ) (i 
   pub most : n ≤ 10
   pub upto : i ≤ n
   pub long : length new ≡ length old
-  pub block : length words ≡ 64
-  pub rows : base + 30 ≤ 64
-  pub room : at + 1080 ≤ length old
-  pub so-far : Put (linesText (sideLines (codeOf words) side 1 (take i (rowsFrom base words)))) (108 * i) at old new end
+  pub block : length words ≡ bookWidth
+  pub rows : base + sideWidth ≤ bookWidth
+  pub room : at + sideRoom ≤ length old
+  pub so-far : Put (linesText (sideLines (codeOf words) side 1 (take i (rowsFrom base words)))) (lineRoom * i) at old new end
 
-pub side-starts : (words old : List ℕ) (side base n count at : ℕ) → n ≡ min count 10 → length words ≡ 64 → base + 30 ≤ 64 → at + 1080 ≤ length old
+pub side-starts : (words old : List ℕ) (side base n count at : ℕ) → n ≡ min count 10 → length words ≡ bookWidth → base + sideWidth ≤ bookWidth → at + sideRoom ≤ length old
     → Siding words side base n at old 0 at old
 unfolding sideLines linesText
 side-starts words old side base n count at e b g h =
@@ -181,7 +182,7 @@ side-starts words old side base n count at e b g h =
 
 pub side-goes : (words old new newer : List ℕ) (side base n at i end r : ℕ) (row : Row) → Siding words side base n at old i end new → i < n
     → row ≡ rowOf (drop (base + 3 * i) words) → length newer ≡ length new
-    → Put (lineText (lineOf (getD words 0 0) side (i + 1) row)) 108 end new newer r → Siding words side base n at old (i + 1) r newer
+    → Put (lineText (lineOf (getD words 0 0) side (i + 1) row)) lineRoom end new newer r → Siding words side base n at old (i + 1) r newer
 unfolding sideLines linesText
 side-goes words old new newer side base n at i end r row c h e g p =
     let rows : List Row = rowsFrom base words in
@@ -199,16 +200,16 @@ side-goes words old new newer side base n at i end r row c h e g p =
       block = c .block;
       rows = c .rows;
       room = c .room;
-      so-far = same-text _ _ old newer (108 * i + 108) (108 * (i + 1)) at r (behind _ _ old new newer (108 * i) 108 at end r (c .so-far) p) same (omega arith);
+      so-far = same-text _ _ old newer (lineRoom * i + lineRoom) (lineRoom * (i + 1)) at r (behind _ _ old new newer (lineRoom * i) lineRoom at end r (c .so-far) p) same (omega arith);
     }
 
 pub side-ends : (words old new : List ℕ) (side base n count at i end : ℕ) → Siding words side base n at old i end new → n ≡ min count 10 → n ≤ i
-    → Put (linesText (sideLines (codeOf words) side 1 (take count (rowsFrom base words)))) 1080 at old new end
+    → Put (linesText (sideLines (codeOf words) side 1 (take count (rowsFrom base words)))) sideRoom at old new end
 side-ends words old new side base n count at i end c e h =
     let upto : i ≤ n = c .upto in
     let rows : List Row = rowsFrom base words in
     let same : take i rows ≡ take count rows = go (decLe count 10) in
-    same-text _ _ old new (108 * i) 1080 at end (c .so-far) (ap (λ (l : List Row). linesText (sideLines (codeOf words) side 1 l)) same) (omega arith)
+    same-text _ _ old new (lineRoom * i) sideRoom at end (c .so-far) (ap (λ (l : List Row). linesText (sideLines (codeOf words) side 1 l)) same) (omega arith)
   where
     rows : List Row
     rows = rowsFrom base words
@@ -222,66 +223,66 @@ side-ends words old new side base n count at i end c e h =
         ∙ sym (take-all count (rowsFrom base words) (omega (arith, rows-ten base words)))
 
 -- the lines of a free slot, and of a held one
-pub free-put : (words old : List ℕ) (at : ℕ) → at + 2160 ≤ length old → getD words 0 0 ≡ 0 → Put (linesText (lines (words ∷ []))) 2160 at old old at
+pub free-put : (words old : List ℕ) (at : ℕ) → at + bookRoom ≤ length old → getD words 0 0 ≡ 0 → Put (linesText (lines (words ∷ []))) bookRoom at old old at
 unfolding lines linesText
-free-put words old at h e = rw (eq-eqb (codeOf words) 0 e) (same-text _ _ old old 0 2160 at at (nothing old at (omega arith)) refl (omega arith))
+free-put words old at h e = rw (eq-eqb (codeOf words) 0 e) (same-text _ _ old old 0 bookRoom at at (nothing old at (omega arith)) refl (omega arith))
 
 pub book-put : (words old mid new : List ℕ) (at j r : ℕ) → (getD words 0 0 ≡ 0 → ⊥)
-    → Put (linesText (sideLines (codeOf words) 0 1 (take (getD words 1 0) (rowsFrom 4 words)))) 1080 at old mid j
-    → Put (linesText (sideLines (codeOf words) 1 1 (take (getD words 2 0) (rowsFrom 34 words)))) 1080 j mid new r
-    → Put (linesText (lines (words ∷ []))) 2160 at old new r
+    → Put (linesText (sideLines (codeOf words) 0 1 (take (getD words 1 0) (rowsFrom bidsAt words)))) sideRoom at old mid j
+    → Put (linesText (sideLines (codeOf words) 1 1 (take (getD words 2 0) (rowsFrom offersAt words)))) sideRoom j mid new r
+    → Put (linesText (lines (words ∷ []))) bookRoom at old new r
 unfolding lines
 book-put words old mid new at j r e p q =
-    rw (ne-eqb (codeOf words) 0 e, append-nil, lines-behind) (behind _ _ old mid new 1080 1080 at j r p q)
+    rw (ne-eqb (codeOf words) 0 e, append-nil, lines-behind) (behind _ _ old mid new sideRoom sideRoom at j r p q)
 
 -- the books of k slots are put
 pub record Booking (table old : List ℕ) (at k end : ℕ) (new : List ℕ) : Type 0 where
-  pub upto : k ≤ 128
+  pub upto : k ≤ slots
   pub long : length new ≡ length old
-  pub whole : length table ≡ 8192
-  pub room : at + 276480 ≤ length old
-  pub so-far : Put (linesText (lines (take k (slotsOf 64 table)))) (2160 * k) at old new end
+  pub whole : length table ≡ tableWords
+  pub room : at + booksRoom ≤ length old
+  pub so-far : Put (linesText (lines (take k (slotsOf bookWidth table)))) (bookRoom * k) at old new end
 
-pub books-start : (table old : List ℕ) (at : ℕ) → length table ≡ 8192 → at + 276480 ≤ length old → Booking table old at 0 at old
+pub books-start : (table old : List ℕ) (at : ℕ) → length table ≡ tableWords → at + booksRoom ≤ length old → Booking table old at 0 at old
 unfolding lines linesText
 books-start table old at e h = record { upto = omega arith; long = refl; whole = e; room = h; so-far = nothing old at (omega arith) }
 
-pub books-go : (table old new newer : List ℕ) (at k end r : ℕ) → Booking table old at k end new → k < 128 → length newer ≡ length new
-    → Put (linesText (lines (take (64 * k + 64 - 64 * k) (drop (64 * k) table) ∷ []))) 2160 end new newer r → Booking table old at (k + 1) r newer
+pub books-go : (table old new newer : List ℕ) (at k end r : ℕ) → Booking table old at k end new → k < slots → length newer ≡ length new
+    → Put (linesText (lines (take (bookWidth * k + bookWidth - bookWidth * k) (drop (bookWidth * k) table) ∷ []))) bookRoom end new newer r → Booking table old at (k + 1) r newer
 books-go table old new newer at k end r c h g p =
-    let whole : length table ≡ 8192 = c .whole in
-    let slots : List (List ℕ) = slotsOf 64 table in
-    let many : length slots ≡ 128 = rw whole (length-blocks 64 128 table) in
-    let wide : 64 * k + 64 - 64 * k ≡ 64 = omega arith in
-    let here : getD slots k [] ≡ take 64 (drop (64 * k) table) = rw whole (block-at 64 128 k table h) in
-    let same : linesText (lines (take k slots)) ++ linesText (lines (take 64 (drop (64 * k) table) ∷ [])) ≡ linesText (lines (take (k + 1) slots)) =
-    rw (add-one, take-suc slots k [] (omega arith), here, books-behind (take k slots), lines-behind) in
+    let whole : length table ≡ tableWords = c .whole in
+    let blocks′ : List (List ℕ) = slotsOf bookWidth table in
+    let many : length blocks′ ≡ slots = rw whole (length-blocks bookWidth slots table) in
+    let wide : bookWidth * k + bookWidth - bookWidth * k ≡ bookWidth = omega arith in
+    let here : getD blocks′ k [] ≡ take bookWidth (drop (bookWidth * k) table) = rw whole (block-at bookWidth slots k table h) in
+    let same : linesText (lines (take k blocks′)) ++ linesText (lines (take bookWidth (drop (bookWidth * k) table) ∷ [])) ≡ linesText (lines (take (k + 1) blocks′)) =
+    rw (add-one, take-suc blocks′ k [] (omega arith), here, books-behind (take k blocks′), lines-behind) in
     record {
       upto = omega arith;
       long = g ∙ c .long;
       whole = whole;
       room = c .room;
-      so-far = same-text _ _ old newer (2160 * k + 2160) (2160 * (k + 1)) at r (behind _ _ old new newer (2160 * k) 2160 at end r (c .so-far) (rw wide at p)) same (omega arith);
+      so-far = same-text _ _ old newer (bookRoom * k + bookRoom) (bookRoom * (k + 1)) at r (behind _ _ old new newer (bookRoom * k) bookRoom at end r (c .so-far) (rw wide at p)) same (omega arith);
     }
 
-pub books-end : (table old new : List ℕ) (at k end : ℕ) → Booking table old at k end new → 128 ≤ k → Put (linesText (lines (slotsOf 64 table))) 276480 at old new end
+pub books-end : (table old new : List ℕ) (at k end : ℕ) → Booking table old at k end new → slots ≤ k → Put (linesText (lines (slotsOf bookWidth table))) booksRoom at old new end
 books-end table old new at k end c h =
-    let upto : k ≤ 128 = c .upto in
-    let whole : length table ≡ 8192 = c .whole in
-    let slots : List (List ℕ) = slotsOf 64 table in
-    let many : length slots ≡ 128 = rw whole (length-blocks 64 128 table) in
-    same-text _ _ old new (2160 * k) 276480 at end (c .so-far) (ap (λ (l : List (List ℕ)). linesText (lines l)) (take-all k slots (omega arith))) (omega arith)
+    let upto : k ≤ slots = c .upto in
+    let whole : length table ≡ tableWords = c .whole in
+    let blocks′ : List (List ℕ) = slotsOf bookWidth table in
+    let many : length blocks′ ≡ slots = rw whole (length-blocks bookWidth slots table) in
+    same-text _ _ old new (bookRoom * k) booksRoom at end (c .so-far) (ap (λ (l : List (List ℕ)). linesText (lines l)) (take-all k blocks′ (omega arith))) (omega arith)
 
-pub end-put : (answer units at a b c r : ℕ) (o p q s t : List ℕ) → Put (101 ∷ 110 ∷ 100 ∷ 32 ∷ []) 4 at o p a → Put (decimal answer ++ (32 ∷ [])) 21 a p q b
-    → Put (117 ∷ 110 ∷ 105 ∷ 116 ∷ 115 ∷ 32 ∷ []) 6 b q s c → Put (decimal units ++ (10 ∷ [])) 21 c s t r → Put (endText answer units) 52 at o t r
+pub end-put : (answer units at a b c r : ℕ) (o p q s t : List ℕ) → Put (101 ∷ 110 ∷ 100 ∷ 32 ∷ []) 4 at o p a → Put (decimal answer ++ (32 ∷ [])) numberRoom a p q b
+    → Put (117 ∷ 110 ∷ 105 ∷ 116 ∷ 115 ∷ 32 ∷ []) 6 b q s c → Put (decimal units ++ (10 ∷ [])) numberRoom c s t r → Put (endText answer units) endRoom at o t r
 unfolding endText
 end-put answer units at a b c r o p q s t h₁ h₂ h₃ h₄ =
     let p₂ = behind _ _ o p q _ _ at a b h₁ h₂ in
     let p₃ = behind _ _ o q s _ _ at b c p₂ h₃ in
-    same-text _ _ o t 52 52 at r (behind _ _ o s t _ _ at c r p₃ h₄) (simp append-assoc) (omega arith)
+    same-text _ _ o t endRoom endRoom at r (behind _ _ o s t _ _ at c r p₃ h₄) (simp append-assoc) (omega arith)
 
-pub all-put : (table : List ℕ) (answer units a b r : ℕ) (o p q s : List ℕ) → Put headText 37 0 o p a → Put (linesText (lines (slotsOf 64 table))) 276480 a p q b
-    → Put (endText answer units) 52 b q s r → Put (text (shown table answer units)) 276569 0 o s r
+pub all-put : (table : List ℕ) (answer units a b r : ℕ) (o p q s : List ℕ) → Put headText headRoom 0 o p a → Put (linesText (lines (slotsOf bookWidth table))) booksRoom a p q b
+    → Put (endText answer units) endRoom b q s r → Put (text (shown table answer units)) textRoom 0 o s r
 all-put table answer units a b r o p q s h₁ h₂ h₃ = behind _ _ o q s _ _ 0 b r (behind _ _ o p q _ _ 0 a b h₁ h₂) h₃
 
 pub ruleset texts = (

@@ -12,7 +12,7 @@ use borrow.Author.Tests.{ltb-true, ltb-false, leb-true, leb-false, le-leb, lt-le
 use Rattle.feed.specs.Steps.{Outcome, accepted, lent, stateOf, outOf}
 use Rattle.feed.specs.Program.{bufferSize}
 use Rattle.feed.proofs.Following.{keeps, wanting, used-some}
-use Rattle.mmdh.specs.Runs.{Within, left, standOf, runFrom, Called, Refilled, Turned, Drained}
+use Rattle.mmdh.specs.Code.Runs.{Within, left, standOf, runFrom, Called, Refilled, Turned, Drained}
 use Rattle.mmdh.specs.declared.Run.{Run}
 use Rattle.mmdh.proofs.Follows.{call-goes, call-ends, call-wants, answer-free}
 

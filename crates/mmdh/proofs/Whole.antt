@@ -12,15 +12,16 @@ use Rattle.feed.specs.Events.{timeOf, news}
 use Rattle.feed.specs.Answers.{arrives, lacksNeed, isMore, lineTests, tableTests, tests}
 use Rattle.feed.specs.Events.{State, onMessage}
 use Rattle.feed.specs.Steps.{lent, stateOf, act, taken}
-use Rattle.feed.specs.Program.{Stand, connection, programRun}
+use Rattle.feed.specs.Program.{Stand, connection, programRun, tableWords}
 use Rattle.feed.specs.declared.Feed.{Feed}
-use Rattle.mmdh.specs.Text.{shown, text, Put}
-use Rattle.mmdh.specs.Runs.{standOf, runFrom, left, Turned, Drained, Wrote}
+use Rattle.mmdh.specs.Text.{text}
+use Rattle.mmdh.specs.Code.Rooms.{shown, Put, textRoom}
+use Rattle.mmdh.specs.Code.Runs.{standOf, runFrom, left, Turned, Drained, Wrote}
 use Rattle.mmdh.specs.declared.Run.{Run}
 use Rattle.mmdh.proofs.Follows.{refused-stays}
 
 -- a connect leaves the zeroed table as it is
-connection-is : stateOf (connection .feed) (lent (replicate 8192 0)) ≡ connection
+connection-is : stateOf (connection .feed) (lent (replicate tableWords 0)) ≡ connection
 unfolding timeOf news tests lineTests tableTests choice.first arrives lacksNeed isMore onMessage act taken
 connection-is = refl
 
@@ -30,16 +31,16 @@ begin = record { answer = 0; units = 0; state = connection }
 abbrev shows : Stand → List ℕ
 shows z = text (shown (z .state .tables .books) (z .answer) (z .units))
 
-pub table-long : (t u : List ℕ) → t ≡ replicate 8192 0 → length u ≡ length t → length u ≡ 8192
-table-long t u e h = h ∙ ap length e ∙ length-replicate {A = ℕ} 8192 0
+pub table-long : (t u : List ℕ) → t ≡ replicate tableWords 0 → length u ≡ length t → length u ≡ tableWords
+table-long t u e h = h ∙ ap length e ∙ length-replicate {A = ℕ} tableWords 0
 
-pub table-kept : (t u v : List ℕ) → t ≡ replicate 8192 0 → length u ≡ length t → length v ≡ length u → length v ≡ 8192
+pub table-kept : (t u v : List ℕ) → t ≡ replicate tableWords 0 → length u ≡ length t → length v ≡ length u → length v ≡ tableWords
 table-kept t u v e h g = g ∙ table-long t u e h
 
 pub few-units : (r q : Run) (x t y u : List ℕ) → Turned 9223372036854775808 r q x t y u → r .units ≡ 0 → q .units ≤ 9223372036854775808
 few-units r q x t y u p e = omega (arith, p .counts)
 
-module _ (feed : Feed) (last end : Run) (buf table bufAfter tableAfter tableEnd : List ℕ) (f : feed ≡ connection .feed) (z : table ≡ replicate 8192 0)
+module _ (feed : Feed) (last end : Run) (buf table bufAfter tableAfter tableEnd : List ℕ) (f : feed ≡ connection .feed) (z : table ≡ replicate tableWords 0)
     (t : Turned 9223372036854775808 (record { answer = 0; units = 0; feed = feed; from = 0; to = 0; over = false }) last buf table bufAfter tableAfter)
     (d : Drained last end bufAfter tableAfter tableEnd) where
   begins : record { answer = 0; units = 0; state = stateOf feed (lent table) } ≡ begin
@@ -57,7 +58,7 @@ module _ (feed : Feed) (last end : Run) (buf table bufAfter tableAfter tableEnd 
           ∙ ap (λ (l : List ℕ). runFrom l (record { answer = 0; units = 0; state = stateOf feed (lent table) })) (append-nil (t .came))
           ∙ ap (runFrom (t .came)) begins
 
-  pub wrote : (before out : List ℕ) (n : ℕ) → Put (text (shown tableEnd (end .answer) (end .units))) 276569 0 before out n → Wrote out n
+  pub wrote : (before out : List ℕ) (n : ℕ) → Put (text (shown tableEnd (end .answer) (end .units))) textRoom 0 before out n → Wrote out n
   wrote before out n p =
       record {
         came = t .came;

@@ -1,17 +1,11 @@
 -- What the program prints, in bytes (document 01, example 10). Assumes nothing.
-use Prim.Native.Nat.{ℕ, zero, suc, _+_, _/_, _%_, _≤_}
-use mathlib.Core.Path.{_≡_}
+use Prim.Native.Nat.{ℕ, zero, suc, _+_, _/_, _%_}
 use mathlib.Core.Bool.{cond}
 use mathlib.Core.List.{List, [], _∷_, _++_}
-use lib.ListN.{length, take}
-use lib.IntN.{ℤ, pos, negsuc, subℕ}
+use lib.IntN.{ℤ, pos, negsuc}
 use lib.Dec.{ltb, eqb}
-use Rattle.wire.specs.Number.{bias}
-use Rattle.slots.specs.Slots.{slotsOf}
 use Rattle.ladder.specs.Message.{bidSide}
-use Rattle.ladder.specs.Words.{bookWidth}
-use Rattle.ladder.specs.declared.Row.{Row}
-use Rattle.feed.specs.Program.{Line, lines, Printed}
+use Rattle.feed.specs.Program.{Line, Printed}
 
 -- a number in decimal, no zero in front: its last digit, behind those of the number without it; `more` bounds how many those are,
 -- and a number has fewer digits than units
@@ -64,17 +58,3 @@ endText answer units = (101 ∷ 110 ∷ 100 ∷ 32 ∷ []) ++ decimal answer ++ 
 -- all that is printed: the head line, the rows, the last line
 abbrev pub text : Printed → List ℕ
 text p = headText ++ linesText (p .rows) ++ endText (p .answer) (p .units)
-
--- the line of a row, as Program has it
-abbrev pub lineOf : ℕ → ℕ → ℕ → Row → Line
-lineOf code side rank r = record { code = code; side = side; rank = rank; price = subℕ (r .price) bias; quantity = r .quantity; orders = r .orders }
-
--- what is printed of a table, a last answer and the units accepted
-abbrev pub shown : List ℕ → ℕ → ℕ → Printed
-shown table answer units = record { rows = lines (slotsOf bookWidth table); answer = answer; units = units }
-
--- a text of at most `room` bytes stands at `at`, behind what stood before it; it ends at `r`
-pub record Put (words : List ℕ) (room at : ℕ) (old new : List ℕ) (r : ℕ) : Type 0 where
-  pub holds : take r new ≡ take at old ++ words
-  pub few : r ≤ at + room
-  pub inside : r ≤ length new

@@ -7,14 +7,29 @@ ghost use mathlib.Core.List.{[], _∷_, _++_};
 ghost use lib.IntN.{subℕ};
 ghost use Rattle.wire.specs.Number.{bias};
 ghost use Rattle.slots.specs.Slots.{slotsOf, codeOf};
-ghost use Rattle.ladder.specs.Words.{bookWidth, rowsFrom};
+ghost use Rattle.ladder.specs.Message.{depth};
+ghost use Rattle.ladder.specs.Words.{bookWidth, rowsFrom, sideWidth};
 ghost use Rattle.feed.specs.Steps.{accepted};
-ghost use Rattle.feed.specs.Program.{bufferSize, connection, sideLines, lines};
-ghost use Rattle.mmdh.specs.Runs.{Within, Called, Refilled, Turned, Drained, Wrote};
-ghost use Rattle.mmdh.specs.Text.{decimal, signed, space, letter, lineOf, lineText, linesText, endText, shown, text, Put};
+ghost use Rattle.feed.specs.Program.{bufferSize, connection, sideLines, lines, tableWords};
+ghost use Rattle.mmdh.specs.Code.Runs.{Within, Called, Refilled, Turned, Drained, Wrote};
+ghost use Rattle.mmdh.specs.Text.{decimal, signed, space, letter, lineText, linesText, endText, text};
+ghost use Rattle.mmdh.specs.Code.Rooms.{lineOf, shown, Put, sideRoom, bookRoom, booksRoom, textRoom, lineRoom, endRoom, priceRoom, numberRoom, slots};
 use feed::Feed;
 use feed::Link;
+use ladder::DEPTH;
 use ladder::Row;
+
+// The words of the table, and how many slots they have.
+const TABLE_WORDS: usize = 8192;
+
+const SLOTS: usize = TABLE_WORDS / ladder::BOOK_WORDS;
+
+// The bytes that can be held, and the most that can be printed: a head of 37 bytes, the books, and a last line of 52.
+const BUFFER_BYTES: usize = 65536;
+
+const LINE_BYTES: usize = 108;
+
+const TEXT_BYTES: usize = 37 + 2 * LINE_BYTES * DEPTH * SLOTS + 52;
 
 // How far a run has come: the last answer, the units accepted, the feed, the bytes of the buffer that are left (`from` up to
 // `to`), and whether the run is over.
@@ -38,7 +53,7 @@ fn connected() -> Feed
 }
 
 // One more unit where an answer accepts it.
-fn counted(units: u64, answer: u64) -> u64
+fn one_more(units: u64, answer: u64) -> u64
     requires { ⌜ units < 18446744073709551615 ⌝ }
     ensures { λ r. ⌜ r ≡ cond (accepted answer) (units + 1) units ⌝ }
 {
@@ -57,7 +72,7 @@ fn called(r: Run, table: &mut [u64], buf: &[u8]) -> Run
     let feed = given.feed;
     let used = given.used;
     let answer = given.answer;
-    let units = counted(r.units, answer);
+    let units = one_more(r.units, answer);
     Run {
         answer,
         units,
@@ -92,7 +107,7 @@ fn read_some(room: &mut [u8]) -> usize
 }
 
 // What is left moves to the front, and more is read behind it: how many bytes there are then.
-fn refilled(buf: &mut [u8], from: usize, to: usize) -> usize
+fn read_behind(buf: &mut [u8], from: usize, to: usize) -> usize
     requires { ⌜ (from ≤ to) × (to ≤ length (now buf)) ⌝ }
     ensures { λ r. ⌜ (to - from ≤ r) × (r ≤ length (now (buf .exit))) × (take (to - from) (now (buf .exit)) ≡ take (to - from) (drop from (now (buf .entry)))) ⌝ }
 {
@@ -108,7 +123,7 @@ fn more(r: Run, buf: &mut [u8]) -> Run
 {
     let from = r.from;
     let to = r.to;
-    let n = refilled(buf, from, to);
+    let n = read_behind(buf, from, to);
     let feed = r.feed;
     Run {
         answer: r.answer,
@@ -185,8 +200,8 @@ fn put(out: &mut [u8], at: usize, words: &[u8]) -> usize
 
 // Puts a number, of at most 20 digits, and the byte that follows it at a place: the place after them.
 fn put_number(out: &mut [u8], at: usize, n: u64, after: u8) -> usize
-    requires { ⌜ at + 21 ≤ length (now out) ⌝ }
-    ensures { λ r. ⌜ Put (decimal n ++ (after ∷ [])) 21 at (now (out .entry)) (now (out .exit)) r ⌝ }
+    requires { ⌜ at + numberRoom ≤ length (now out) ⌝ }
+    ensures { λ r. ⌜ Put (decimal n ++ (after ∷ [])) numberRoom at (now (out .entry)) (now (out .exit)) r ⌝ }
 {
     let mut digits = [0u8; 20];
     let k = io::decimal(n, &mut digits);
@@ -196,27 +211,27 @@ fn put_number(out: &mut [u8], at: usize, n: u64, after: u8) -> usize
 
 // Puts a price, in thousandths, from its word in the table, and a space at a place: the place after them.
 fn put_price(out: &mut [u8], at: usize, word: u64) -> usize
-    requires { ⌜ at + 22 ≤ length (now out) ⌝ }
-    ensures { λ r. ⌜ Put (signed (subℕ word bias) ++ space) 22 at (now (out .entry)) (now (out .exit)) r ⌝ }
+    requires { ⌜ at + priceRoom ≤ length (now out) ⌝ }
+    ensures { λ r. ⌜ Put (signed (subℕ word bias) ++ space) priceRoom at (now (out .entry)) (now (out .exit)) r ⌝ }
 {
-    if word < 2147483648 {
+    if word < wire::BIAS {
         let first = put_byte(out, at, b'-');
-        return put_number(out, first, 2147483648 - word, b' ');
+        return put_number(out, first, wire::BIAS - word, b' ');
     }
-    put_number(out, at, word - 2147483648, b' ')
+    put_number(out, at, word - wire::BIAS, b' ')
 }
 
 // The letter of a side.
 fn letter_of(side: u64) -> u8
     ensures { λ r. ⌜ r ≡ letter side ⌝ }
 {
-    if side == 0 { b'B' } else { b'O' }
+    if side == ladder::BID { b'B' } else { b'O' }
 }
 
 // Puts the line of a row, of at most 108 bytes, at a place: the place after it.
 fn put_row(out: &mut [u8], at: usize, code: u64, side: u64, rank: u64, row: Row) -> usize
-    requires { ⌜ at + 108 ≤ length (now out) ⌝ }
-    ensures { λ r. ⌜ Put (lineText (lineOf code side rank row)) 108 at (now (out .entry)) (now (out .exit)) r ⌝ }
+    requires { ⌜ at + lineRoom ≤ length (now out) ⌝ }
+    ensures { λ r. ⌜ Put (lineText (lineOf code side rank row)) lineRoom at (now (out .entry)) (now (out .exit)) r ⌝ }
 {
     let a = put_number(out, at, code, b' ');
     let b = put_byte(out, a, letter_of(side));
@@ -229,15 +244,19 @@ fn put_row(out: &mut [u8], at: usize, code: u64, side: u64, rank: u64, row: Row)
 
 // How many rows of a side there are by its count: at most ten.
 fn rows_in(count: u64) -> usize
-    ensures { λ r. ⌜ r ≡ min count 10 ⌝ }
+    ensures { λ r. ⌜ r ≡ min count depth ⌝ }
 {
-    if count < 10 { count as usize } else { 10 }
+    if count < DEPTH as u64 {
+        count as usize
+    } else {
+        DEPTH
+    }
 }
 
 // Puts the lines of one side of the book in a slot's words, its rows from word `base` on.
 fn put_side(out: &mut [u8], at: usize, words: &[u64], side: u64, base: usize, count: u64) -> usize
-    requires { ⌜ (length (now words) ≡ 64) × (base + 30 ≤ 64) × (at + 1080 ≤ length (now out)) ⌝ }
-    ensures { λ r. ⌜ Put (linesText (sideLines (codeOf (now (words .entry))) side 1 (take count (rowsFrom base (now (words .entry)))))) 1080 at (now (out .entry)) (now (out .exit)) r ⌝ }
+    requires { ⌜ (length (now words) ≡ bookWidth) × (base + sideWidth ≤ bookWidth) × (at + sideRoom ≤ length (now out)) ⌝ }
+    ensures { λ r. ⌜ Put (linesText (sideLines (codeOf (now (words .entry))) side 1 (take count (rowsFrom base (now (words .entry)))))) sideRoom at (now (out .entry)) (now (out .exit)) r ⌝ }
 {
     let code = words[0];
     let n = rows_in(count);
@@ -250,7 +269,7 @@ fn put_side(out: &mut [u8], at: usize, words: &[u64], side: u64, base: usize, co
             code,
             side,
             i as u64 + 1,
-            ladder::row_at(words, base + 3 * i),
+            ladder::row_at(words, base + ladder::ROW_WORDS * i),
         );
         i += 1;
     }
@@ -259,26 +278,40 @@ fn put_side(out: &mut [u8], at: usize, words: &[u64], side: u64, base: usize, co
 
 // Puts the lines of the book in a slot's words, bids before offers; none where the slot is free.
 fn put_book(out: &mut [u8], at: usize, words: &[u64]) -> usize
-    requires { ⌜ (length (now words) ≡ 64) × (at + 2160 ≤ length (now out)) ⌝ }
-    ensures { λ r. ⌜ Put (linesText (lines (now (words .entry) ∷ []))) 2160 at (now (out .entry)) (now (out .exit)) r ⌝ }
+    requires { ⌜ (length (now words) ≡ bookWidth) × (at + bookRoom ≤ length (now out)) ⌝ }
+    ensures { λ r. ⌜ Put (linesText (lines (now (words .entry) ∷ []))) bookRoom at (now (out .entry)) (now (out .exit)) r ⌝ }
 {
     if words[0] == 0 {
         return at;
     }
-    let mid = put_side(out, at, words, 0, 4, words[1]);
-    put_side(out, mid, words, 1, 34, words[2])
+    let mid = put_side(
+        out,
+        at,
+        words,
+        ladder::BID,
+        ladder::BIDS_AT,
+        words[ladder::BID_COUNT_AT],
+    );
+    put_side(
+        out,
+        mid,
+        words,
+        ladder::OFFER,
+        ladder::OFFERS_AT,
+        words[ladder::OFFER_COUNT_AT],
+    )
 }
 
 // Puts the lines of all books, in slot order.
 fn put_books(out: &mut [u8], at: usize, table: &[u64]) -> usize
-    requires { ⌜ (length (now table) ≡ 8192) × (at + 276480 ≤ length (now out)) ⌝ }
-    ensures { λ r. ⌜ Put (linesText (lines (slotsOf bookWidth (now (table .entry))))) 276480 at (now (out .entry)) (now (out .exit)) r ⌝ }
+    requires { ⌜ (length (now table) ≡ tableWords) × (at + booksRoom ≤ length (now out)) ⌝ }
+    ensures { λ r. ⌜ Put (linesText (lines (slotsOf bookWidth (now (table .entry))))) booksRoom at (now (out .entry)) (now (out .exit)) r ⌝ }
 {
     let mut end = at;
     let mut k = 0;
-    while k < 128 {
-        let a = 64 * k;
-        let b = a + 64;
+    while k < SLOTS {
+        let a = ladder::BOOK_WORDS * k;
+        let b = a + ladder::BOOK_WORDS;
         end = put_book(out, end, &table[a..b]);
         k += 1;
     }
@@ -287,8 +320,8 @@ fn put_books(out: &mut [u8], at: usize, table: &[u64]) -> usize
 
 // Puts the last line, of the last answer and the units accepted.
 fn put_end(out: &mut [u8], at: usize, answer: u64, units: u64) -> usize
-    requires { ⌜ at + 52 ≤ length (now out) ⌝ }
-    ensures { λ r. ⌜ Put (endText answer units) 52 at (now (out .entry)) (now (out .exit)) r ⌝ }
+    requires { ⌜ at + endRoom ≤ length (now out) ⌝ }
+    ensures { λ r. ⌜ Put (endText answer units) endRoom at (now (out .entry)) (now (out .exit)) r ⌝ }
 {
     let a = put(out, at, b"end ");
     let b = put_number(out, a, answer, b' ');
@@ -298,8 +331,8 @@ fn put_end(out: &mut [u8], at: usize, answer: u64, units: u64) -> usize
 
 // Puts all that is printed at the front: how many bytes it has.
 fn render(out: &mut [u8], table: &[u64], answer: u64, units: u64) -> usize
-    requires { ⌜ (length (now table) ≡ 8192) × (length (now out) ≡ 276569) ⌝ }
-    ensures { λ r. ⌜ Put (text (shown (now (table .entry)) answer units)) 276569 0 (now (out .entry)) (now (out .exit)) r ⌝ }
+    requires { ⌜ (length (now table) ≡ tableWords) × (length (now out) ≡ textRoom) ⌝ }
+    ensures { λ r. ⌜ Put (text (shown (now (table .entry)) answer units)) textRoom 0 (now (out .entry)) (now (out .exit)) r ⌝ }
 {
     let a = put(out, 0, b"code side rank price quantity orders\n");
     let b = put_books(out, a, table);
@@ -308,7 +341,7 @@ fn render(out: &mut [u8], table: &[u64], answer: u64, units: u64) -> usize
 
 // The run over standard input with 128 slots, into a buffer of what it prints: how many bytes that has.
 fn program(table: &mut [u64], buf: &mut [u8], out: &mut [u8]) -> usize
-    requires { ⌜ (now table ≡ replicate 8192 0) × (length (now buf) ≡ bufferSize) × (length (now out) ≡ 276569) ⌝ }
+    requires { ⌜ (now table ≡ replicate tableWords 0) × (length (now buf) ≡ bufferSize) × (length (now out) ≡ textRoom) ⌝ }
     ensures { λ r. ⌜ Wrote (now (out .exit)) r ⌝ }
 {
     let feed = connected();
@@ -327,9 +360,9 @@ fn program(table: &mut [u64], buf: &mut [u8], out: &mut [u8]) -> usize
 
 // Runs, and writes what is printed; a message where it cannot be written.
 fn main() {
-    let mut table = [0u64; 8192];
-    let mut buf = [0u8; 65536];
-    let mut out = [0u8; 276569];
+    let mut table = [0u64; TABLE_WORDS];
+    let mut buf = [0u8; BUFFER_BYTES];
+    let mut out = [0u8; TEXT_BYTES];
     let n = program(&mut table, &mut buf, &mut out);
     let written = io::write_all(1, &out[..n]);
     if !written {

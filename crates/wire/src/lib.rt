@@ -9,7 +9,7 @@ ghost use Rattle.wire.specs.Units.{unitOf, messageIn};
 // How many numbers 4 bytes hold, and the bias of a price.
 pub const WORD32: u64 = 4294967296;
 
-const BIAS: u64 = 2147483648;
+pub const BIAS: u64 = 2147483648;
 
 const SIGNED_BIAS: i64 = BIAS as i64;
 

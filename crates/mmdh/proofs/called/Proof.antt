@@ -15,7 +15,7 @@ returns c =
     let at-entry = c .before .before .before .before .before .before .before .before .before .before in
     let given = c .before .before .before .before .arrive in
     calls-meet (at-entry .args .r) (denote.Ref.now (at-entry .args .buf)) (denote.Ref.now (at-entry .args .table)) (given .last .1 .0) (given .result) (at-entry .pre .0) (given .ensures)
-    (c .counted .result) (c .counted .ensures)
+    (c .one-more .result) (c .one-more .ensures)
 
 pub called-spec : {M : Type 1} → statement M
 called-spec =

@@ -3,8 +3,8 @@ use mathlib.Core.Path.{_∙_}
 use native.Mathlib.Omega.{arith}
 use borrow.Author.Needs.{needs}
 use Rattle.mmdh.proofs.Slides.{read-behind}
-use Rattle.mmdh.proofs.refilled.Statement.{statement}
-use Rattle.mmdh.proofs.refilled.Tie as tie
+use Rattle.mmdh.proofs.read_behind.Statement.{statement}
+use Rattle.mmdh.proofs.read_behind.Tie as tie
 
 returns : tie.Need-returns
 returns c =
@@ -12,8 +12,8 @@ returns c =
     let n : ℕ = at-slide .before .before .before .args .to - at-slide .before .before .before .args .from in
     (search needs, search needs, read-behind n (at-slide .slide .last .0) _ (omega arith) ∙ at-slide .slide .ensures)
 
-pub refilled-spec : {M : Type 1} → statement M
-refilled-spec =
+pub read-behind-spec : {M : Type 1} → statement M
+read-behind-spec =
     tie.close
     (tie.spec
     (λ c. search needs)
