@@ -1,20 +1,39 @@
 #!/usr/bin/env bash
-# Builds the Rust side into target/rust with plain rustc, against target/staticlib/libscreen.a, and runs a part of it:
-#   bash rust/build.sh test [..]       the comparisons; the last line is 'N passed, 0 failed'
-#   bash rust/build.sh bench [--short] nanoseconds a message (on Arm x86-64 instructions), or only that all three ways agree
-#   bash rust/build.sh paint [..]      six panels from a capture (--help)
-#   bash rust/build.sh capture [FILE]  writes captures/morning.bin anew
-#   bash rust/build.sh header          include/mmdh.h from a C program
-# The archive is x86-64. On an Arm machine all of this is built for x86-64 and run under an emulator.
+# Builds the Rust side into target/rust with plain rustc, against target/staticlib/libscreen.a, and runs a part of it.
+# The archive is x86-64. On an Arm machine all of it is built for x86-64 and run under an emulator, but for bench: there
+# the library is compiled for Arm (rust/bench/arm.sh), since times under an emulator mean nothing.
 set -u
 cd "$(dirname "$0")/.." || exit 1
 out=target/rust
 archive=target/staticlib/libscreen.a
-packages="rustc libstd-rust-dev:amd64 gcc-x86-64-linux-gnu libc6-dev-amd64-cross qemu-user"
+
+usage() {
+    cat <<'END'
+usage: bash rust/build.sh PART
+
+  test [..]         the comparisons; the last line is 'N passed, 0 failed'
+  bench [--short]   nanoseconds a message of the library, the plain twin and the tuned one, taking turns, at 128, 512 and
+                    4,096 slots; --short only looks whether all three end with the same table. On Arm the library's own
+                    code is compiled for Arm, and no emulator runs; the library is proved first where it is not yet
+  count [SLOTS..]   x86-64 instructions a message of the same three, under an emulator; about ten minutes
+  paint [..]        six panels from a capture (--help)
+  capture [FILE]    writes captures/morning.bin anew
+  header            include/mmdh.h from a C program
+
+All but bench on Arm need target/staticlib/libscreen.a: run 'rt staticlib screen' first.
+END
+}
 
 fail() {
     echo "build.sh: $*" >&2
     exit 1
+}
+
+# Installs Debian packages by name, where they are missing.
+install() {
+    echo "installing $*" >&2
+    command -v apt-get >/dev/null 2>&1 || fail "no apt-get on this machine; these are needed: $*"
+    { apt-get update && apt-get install -y "$@"; } >"$out/apt.log" 2>&1 || fail "could not install $* (see $out/apt.log)"
 }
 
 # x86-64: the machine's own compiler.
@@ -30,10 +49,8 @@ native() {
 emulated() {
     if ! [ -x /usr/bin/rustc ] || ! [ -d /usr/lib/rustlib/x86_64-unknown-linux-gnu ] ||
         ! command -v x86_64-linux-gnu-gcc >/dev/null 2>&1 || ! command -v qemu-x86_64 >/dev/null 2>&1; then
-        echo "installing $packages" >&2
-        # shellcheck disable=SC2086
-        { dpkg --add-architecture amd64 && apt-get update && apt-get install -y $packages; } >"$out/apt.log" 2>&1 ||
-            fail "could not install $packages (see $out/apt.log)"
+        dpkg --add-architecture amd64 || fail "could not add the architecture amd64 to dpkg"
+        install rustc libstd-rust-dev:amd64 gcc-x86-64-linux-gnu libc6-dev-amd64-cross qemu-user
     fi
     rustc=/usr/bin/rustc
     cc=(x86_64-linux-gnu-gcc -static)
@@ -45,6 +62,17 @@ emulated() {
     flags=(--target x86_64-unknown-linux-gnu -C linker=x86_64-linux-gnu-gcc -C target-feature=+crt-static
         -C relocation-model=static -L "native=$out/x86")
     run=(qemu-x86_64)
+}
+
+# Arm, for times: the machine's own compiler, and the library's code compiled for Arm.
+timed() {
+    out=target/rust/arm
+    archive=$out/libscreen.a
+    mkdir -p "$out" || fail "cannot make $out"
+    if ! command -v rustc >/dev/null 2>&1 || ! command -v cc >/dev/null 2>&1; then install rustc gcc libc6-dev; fi
+    native
+    bash rust/bench/arm.sh || fail "the library could not be compiled for Arm"
+    echo "the library's code compiled for Arm, the twins by $(rustc --version | cut -d' ' -f1,2)"
 }
 
 compile() {
@@ -87,15 +115,21 @@ painted() {
     echo "captures/morning.bin painted: $badges"
 }
 
+part=${1:-}
+[ $# -gt 0 ] && shift
+case $part in
+    test | bench | count | paint | capture | header) ;;
+    -h | --help | help) usage && exit ;;
+    *) usage >&2 && exit 1 ;;
+esac
 mkdir -p "$out" || fail "cannot make $out"
-case $(uname -m) in
-    x86_64) native ;;
-    aarch64) emulated ;;
+case $(uname -m)-$part in
+    x86_64-*) native ;;
+    aarch64-bench) timed ;;
+    aarch64-*) emulated ;;
     *) fail "neither x86-64 nor Arm: $(uname -m)" ;;
 esac
 
-part=${1:-}
-[ $# -gt 0 ] && shift
 case $part in
     test)
         library twin && library exchange && over_archive
@@ -109,12 +143,12 @@ case $part in
     bench)
         library twin && library exchange && over_archive
         program bench twin exchange mmdh
-        if [ ${#run[@]} -eq 0 ] || [ $# -gt 0 ]; then
-            "${run[@]}" "$out/bench" "$@"
-        else
-            # under an emulator times mean nothing
-            "${run[@]}" "$out/bench" --short && bash rust/bench/count.sh
-        fi
+        "$out/bench" "$@"
+        ;;
+    count)
+        library twin && library exchange && over_archive
+        program bench twin exchange mmdh
+        "${run[@]}" "$out/bench" --short && bash rust/bench/count.sh "$@"
         ;;
     paint)
         over_archive && program paint mmdh
@@ -130,5 +164,4 @@ case $part in
             fail "the C compiler failed on tests/header/main.c"
         "${run[@]}" "$out/header" vectors/example10.in
         ;;
-    *) fail "say test, bench [--short], paint .., capture or header" ;;
 esac

@@ -2,12 +2,12 @@
 # Counts x86-64 instructions a message of the library, the plain twin and the tuned one, under qemu-x86_64:
 #   bash rust/bench/count.sh [SLOTS..]     128, 512 and 4096 where none is named; about ten minutes
 # The difference of a run of 1,500 messages and one of 300 leaves out all that is no arrival; it repeats to the digit.
-# 'bash rust/build.sh bench' runs it on Arm; elsewhere run it from the repository's root after 'bash rust/build.sh bench --short'.
+# 'bash rust/build.sh count [SLOTS..]' builds the benchmark for x86-64 and runs this.
 set -u
 cd "$(dirname "$0")/../.." || exit 1
 bench=target/rust/bench
 if [ ! -x "$bench" ]; then
-    echo "count: no $bench; run bash rust/build.sh bench --short first" >&2
+    echo "count: no $bench; run bash rust/build.sh count" >&2
     exit 1
 fi
 if ! command -v qemu-x86_64 >/dev/null 2>&1; then
