@@ -20,7 +20,7 @@ usage: bash rust/build.sh PART
   capture [FILE]    writes captures/morning.bin anew
   header            include/mmdh.h from a C program
 
-All but bench on Arm need target/staticlib/libscreen.a: run 'rt staticlib screen' first.
+All but capture, and bench on Arm, need target/staticlib/libscreen.a: run 'rt staticlib screen' first.
 END
 }
 
