@@ -12,6 +12,7 @@ use borrow.Author.Tests.{ltb-true, leb-true, eqb-true}
 use Rattle.ground.specs.Choice.{all}
 use Rattle.wire.specs.Number.{word32}
 use Rattle.ground.proofs.Bools.{both, join}
+use Rattle.ground.proofs.Choices.{all-at}
 use Rattle.ladder.specs.Sides.{noRow}
 use Rattle.ladder.specs.Words.{bidCount, offerCount, spareWord, bidsAt, offersAt, rowsFrom, bookOf, noRows, pad, bestFirst, bounded, zeroRow, soundSide, sound}
 use Rattle.ladder.specs.Arrays.{Padded, Sides}
@@ -21,13 +22,6 @@ use Rattle.ladder.specs.declared.Way.the-variants.{Bid, Offer}
 use Rattle.ladder.specs.declared.Row.{Row}
 use Rattle.ladder.proofs.Pads.{length-pad, pad-behind}
 use Rattle.ladder.proofs.Loads.{rows-ten}
-
--- a test that passes at every element passes at the i-th
-pub all-at : {A : Type 0} (f : A → Bool) (l : List A) (i : ℕ) (d : A) → all f l ≡ true → i < length l → f (getD l i d) ≡ true
-unfolding all
-all-at f [] i d e h = absurd (omega arith)
-all-at f (x ∷ l) zero d e h = both (f x) (all f l) e .0
-all-at f (x ∷ l) (suc i) d e h = all-at f l i d (both (f x) (all f l) e .1) (omega arith)
 
 -- a test that passes at each element passes at every one
 pub all-of : {A : Type 0} (f : A → Bool) (l : List A) (d : A) → ((i : ℕ) → i < length l → f (getD l i d) ≡ true) → all f l ≡ true
