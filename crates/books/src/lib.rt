@@ -3,16 +3,21 @@ ghost use mathlib.Core.Path.{_≡_};
 ghost use mathlib.Core.Bool.{_&&_};
 ghost use Prim.Native.Nat.{_+_, _-_, _*_, _<_, _≤_};
 ghost use lib.ListN.{length, drop};
-ghost use Rattle.slots.specs.Slots.{slotCount};
+ghost use Rattle.slots.specs.Layout.{landed, countIn};
+ghost use Rattle.slots.specs.Turns.{ready, slotTurn, within, placeTurn};
 ghost use Rattle.ladder.specs.Message.{noEntries, entriesAt, entrySize, entriesFrom, listedCode, listedBook, listedSide, listedRank};
-ghost use Rattle.ladder.specs.Words.{rowOf};
+ghost use Rattle.ladder.specs.Walk.{walk};
+ghost use Rattle.ladder.specs.Words.{bookWidth, rowWidth, rowOf};
 ghost use Rattle.wire.specs.Number.{word32};
-ghost use Rattle.ladder.specs.Loading.{met};
-ghost use Rattle.books.specs.Table.{placeIn, block as blockOf};
-ghost use Rattle.books.specs.Turns.{ready, startRows, startCounts, slotMet, within, placeMet, bookTurn};
+ghost use Rattle.books.specs.Table.{books, placeIn, block as blockOf};
+ghost use Rattle.books.specs.Turns.{startRows, startCounts, bookTurn};
 ghost use Rattle.books.specs.Reading.{rowRefused, rowOfSide, rowOfBook, readRow};
 use ladder::Row;
 use slots::Slot;
+
+// "One book is 64 words; slots are whole blocks of 64, at most 4,096"
+pub const WIDTH: usize = 64;
+pub const MOST: usize = 4096;
 
 // What reading a row gives: the answer, and with answer 0 the row, its price signed as sent.
 pub struct RowRead {
@@ -24,8 +29,8 @@ pub struct RowRead {
 
 // Whether a slot can be worked on: a code's own book has to be sound, and of a free slot nothing is asked.
 fn is_ready(words: &[u64], own: bool) -> bool
-    requires { ⌜ length (now words) ≡ 64 ⌝ }
-    ensures { λ r. ⌜ r ≡ ready own (now (words .entry)) ⌝ }
+    requires { ⌜ length (now words) ≡ bookWidth ⌝ }
+    ensures { λ r. ⌜ r ≡ ready books own (now (words .entry)) ⌝ }
 {
     if own {
         return ladder::is_sound(words);
@@ -35,7 +40,7 @@ fn is_ready(words: &[u64], own: bool) -> bool
 
 // The ten rows of each side of a slot's book; whatever the words of a free slot are, its book starts empty.
 fn rows_in(words: &[u64], own: bool) -> [[Row; 10]; 2]
-    requires { ⌜ length (now words) ≡ 64 ⌝ }
+    requires { ⌜ length (now words) ≡ bookWidth ⌝ }
     ensures { λ r. ⌜ r ≡ startRows own (now (words .entry)) ⌝ }
 {
     if own {
@@ -46,7 +51,7 @@ fn rows_in(words: &[u64], own: bool) -> [[Row; 10]; 2]
 
 // How many rows of each side are used.
 fn counts_in(words: &[u64], own: bool) -> [usize; 2]
-    requires { ⌜ length (now words) ≡ 64 ⌝ }
+    requires { ⌜ length (now words) ≡ bookWidth ⌝ }
     ensures { λ r. ⌜ r ≡ startCounts own (now (words .entry)) ⌝ }
 {
     if own {
@@ -57,8 +62,8 @@ fn counts_in(words: &[u64], own: bool) -> [usize; 2]
 
 // A slot's words after n entries: 18 where it is a code's own and its book is not sound.
 fn in_words(words: &mut [u64], own: bool, code: u64, part: &[u8], n: usize, time: u64) -> u64
-    requires { ⌜ (length (now words) ≡ 64) × (entrySize * n ≤ length (now part)) ⌝ }
-    ensures { λ r. ⌜ met r (now (words .exit)) ≡ slotMet own code time (entriesFrom n 0 (now (part .entry))) (now (words .entry)) ⌝ }
+    requires { ⌜ (length (now words) ≡ bookWidth) × (entrySize * n ≤ length (now part)) ⌝ }
+    ensures { λ r. ⌜ landed r (now (words .exit)) ≡ slotTurn books own code (walk time (entriesFrom n 0 (now (part .entry)))) (now (words .entry)) ⌝ }
 {
     if is_ready(words, own) {
         let rows = rows_in(words, own);
@@ -78,20 +83,20 @@ fn in_slot(
     n: usize,
     time: u64,
 ) -> u64
-    requires { ⌜ (k < slotCount 64 (length (now table))) × (entrySize * n ≤ length (now part)) ⌝ }
-    ensures { λ r. ⌜ met r (now (table .exit)) ≡ within k (now (table .entry)) (slotMet own code time (entriesFrom n 0 (now (part .entry))) (blockOf k (now (table .entry)))) ⌝ }
+    requires { ⌜ (k < countIn books (length (now table))) × (entrySize * n ≤ length (now part)) ⌝ }
+    ensures { λ r. ⌜ landed r (now (table .exit)) ≡ within books k (now (table .entry)) (slotTurn books own code (walk time (entriesFrom n 0 (now (part .entry)))) (blockOf k (now (table .entry)))) ⌝ }
 {
-    let a = 64 * k;
-    let b = a + 64;
+    let a = WIDTH * k;
+    let b = a + WIDTH;
     in_words(&mut table[a..b], own, code, part, n, time)
 }
 
 // The table after n entries for a code: in the lowest slot with the code, else the lowest free one, else 17.
 fn placed(table: &mut [u64], code: u64, part: &[u8], n: usize, time: u64) -> u64
     requires { ⌜ entrySize * n ≤ length (now part) ⌝ }
-    ensures { λ r. ⌜ met r (now (table .exit)) ≡ placeMet (placeIn code (now (table .entry))) code time (entriesFrom n 0 (now (part .entry))) (now (table .entry)) ⌝ }
+    ensures { λ r. ⌜ landed r (now (table .exit)) ≡ placeTurn books (placeIn code (now (table .entry))) code (walk time (entriesFrom n 0 (now (part .entry)))) (now (table .entry)) ⌝ }
 {
-    let slot = slots::find(table, 64, code);
+    let slot = slots::find(table, MOST, WIDTH, code);
     match slot {
         Slot::Held(k) => in_slot(table, k, true, code, part, n, time),
         Slot::Free(k) => in_slot(table, k, false, code, part, n, time),
@@ -125,7 +130,7 @@ pub fn is_listed(m: &[u8]) -> bool
 // A book message of the right size on the table: 18, 17, 16 or 0, in that order; only with 0 is anything written.
 pub fn take(table: &mut [u64], m: &[u8], time: u64) -> u64
     requires { ⌜ length (now m) ≡ entriesAt + entrySize * noEntries (now m) ⌝ }
-    ensures { λ r. ⌜ met r (now (table .exit)) ≡ bookTurn time (now (m .entry)) (now (table .entry)) ⌝ }
+    ensures { λ r. ⌜ landed r (now (table .exit)) ≡ bookTurn time (now (m .entry)) (now (table .entry)) ⌝ }
 {
     let n = wire::u8_in(m, 11) as usize;
     if n == 0 {
@@ -166,7 +171,7 @@ fn is_asked(code: u64, side: u64, rank: u64) -> bool
 
 // A row of a side of n rows that begins at a word: 4 where there is no such row.
 fn row_of_side(words: &[u64], base: usize, n: u64, rank: u64) -> RowRead
-    requires { ⌜ (base + 30 ≤ length (now words)) × (1 ≤ rank) × (rank ≤ 10) × (rank ≤ n → rowOf (drop (base + 3 * (rank - 1)) (now words)) .price < word32) ⌝ }
+    requires { ⌜ (base + 30 ≤ length (now words)) × (1 ≤ rank) × (rank ≤ 10) × (rank ≤ n → rowOf (drop (base + rowWidth * (rank - 1)) (now words)) .price < word32) ⌝ }
     ensures { λ r. ⌜ r ≡ rowOfSide base n rank (now (words .entry)) ⌝ }
 {
     if n < rank {
@@ -185,7 +190,7 @@ fn row_of_side(words: &[u64], base: usize, n: u64, rank: u64) -> RowRead
 
 // A row of the book in a slot's words: 18 where the book is not sound.
 fn row_of_book(words: &[u64], side: u64, rank: u64) -> RowRead
-    requires { ⌜ (length (now words) ≡ 64) × (1 ≤ rank) × (rank ≤ 10) ⌝ }
+    requires { ⌜ (length (now words) ≡ bookWidth) × (1 ≤ rank) × (rank ≤ 10) ⌝ }
     ensures { λ r. ⌜ r ≡ rowOfBook side rank (now (words .entry)) ⌝ }
 {
     if ladder::is_sound(words) {
@@ -199,11 +204,11 @@ fn row_of_book(words: &[u64], side: u64, rank: u64) -> RowRead
 
 // A row of the book in slot k of the table.
 fn row_in_slot(table: &[u64], k: usize, side: u64, rank: u64) -> RowRead
-    requires { ⌜ (k < slotCount 64 (length (now table))) × (1 ≤ rank) × (rank ≤ 10) ⌝ }
+    requires { ⌜ (k < countIn books (length (now table))) × (1 ≤ rank) × (rank ≤ 10) ⌝ }
     ensures { λ r. ⌜ r ≡ rowOfBook side rank (blockOf k (now (table .entry))) ⌝ }
 {
-    let a = 64 * k;
-    let b = a + 64;
+    let a = WIDTH * k;
+    let b = a + WIDTH;
     row_of_book(&table[a..b], side, rank)
 }
 
@@ -212,7 +217,7 @@ pub fn read_row(table: &[u64], code: u64, side: u64, rank: u64) -> RowRead
     ensures { λ r. ⌜ r ≡ readRow code side rank (now (table .entry)) ⌝ }
 {
     if is_asked(code, side, rank) {
-        let slot = slots::find(table, 64, code);
+        let slot = slots::find(table, MOST, WIDTH, code);
         let Slot::Held(k) = slot else {
             return no_row(4);
         };

@@ -656,7 +656,7 @@ impl Feed {
         match kind {
             Kind::Session(session) => {
                 if self.is_clearing(session, message) {
-                    slots::clear(table, 64);
+                    slots::clear(table, books::MOST, books::WIDTH);
                     return self.done(session, message, time).kept(0);
                 }
                 self.done(session, message, time).kept(0)

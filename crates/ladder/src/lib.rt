@@ -12,9 +12,10 @@ ghost use Rattle.ladder.specs.Walk.{walk as walkBook};
 ghost use Rattle.ladder.specs.Sides.{better, noRow, newRows, deleteRows};
 ghost use Rattle.ladder.specs.Arrays.{Sides, wayOf, fitsAt, tenAfter, countAfter, emptyRows, bookIn};
 ghost use Rattle.slots.specs.Slots.{overlay, flat};
+ghost use Rattle.slots.specs.Layout.{landed};
 ghost use Rattle.ladder.specs.Words.{bookWidth, bidCount, offerCount, bidsAt, offersAt, rowWidth, rowOf, rowWords, rowsFrom, wordsOf, soundSide, sound};
 ghost use Rattle.ladder.specs.declared.Way.the-variants.{Bid, Offer};
-ghost use Rattle.ladder.specs.Loading.{rowsIn, inOrder, soundWords, met, settled};
+ghost use Rattle.ladder.specs.Loading.{rowsIn, inOrder, soundWords, settled};
 
 // The two sides.
 pub enum Way {
@@ -320,7 +321,7 @@ pub fn walk(
     time: u64,
 ) -> u64
     requires { ⌜ (length (now words) ≡ bookWidth) × Sides rows counts × (entrySize * n ≤ length (now part)) ⌝ }
-    ensures { λ r. ⌜ met r (now (words .exit)) ≡ settled code (walkBook time (entriesFrom n 0 (now (part .entry))) (bookIn rows counts)) (now (words .entry)) ⌝ }
+    ensures { λ r. ⌜ landed r (now (words .exit)) ≡ settled code (walkBook time (entriesFrom n 0 (now (part .entry))) (bookIn rows counts)) (now (words .entry)) ⌝ }
 {
     let mut i = 0;
     'walk: loop {

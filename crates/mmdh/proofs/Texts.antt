@@ -13,7 +13,9 @@ use borrow.Author.Needs.{needs}
 use borrow.Author.Tests.{lt-ltb, le-ltb, eq-eqb, ne-eqb}
 use Rattle.io.specs.Digits.{digits, Fewest}
 use Rattle.wire.specs.Number.{bias}
-use Rattle.slots.specs.Slots.{slotsOf, codeOf}
+use Rattle.slots.specs.Slots.{codeOf}
+use Rattle.slots.specs.Layout.{slotsIn}
+use Rattle.books.specs.Table.{books}
 use Rattle.slots.proofs.Blocks.{block-at, length-blocks}
 use Rattle.ladder.specs.Sides.{noRow}
 use Rattle.ladder.specs.Words.{rowOf, rowsFrom}
@@ -240,7 +242,7 @@ pub record Booking (table old : List ℕ) (at k end : ℕ) (new : List ℕ) : Ty
   pub long : length new ≡ length old
   pub whole : length table ≡ 8192
   pub room : at + 276480 ≤ length old
-  pub so-far : Put (linesText (lines (take k (slotsOf 64 table)))) (2160 * k) at old new end
+  pub so-far : Put (linesText (lines (take k (slotsIn books table)))) (2160 * k) at old new end
 
 pub books-start : (table old : List ℕ) (at : ℕ) → length table ≡ 8192 → at + 276480 ≤ length old → Booking table old at 0 at old
 unfolding lines linesText
@@ -250,7 +252,7 @@ pub books-go : (table old new newer : List ℕ) (at k end r : ℕ) → Booking t
     → Put (linesText (lines (take (64 * k + 64 - 64 * k) (drop (64 * k) table) ∷ []))) 2160 end new newer r → Booking table old at (k + 1) r newer
 books-go table old new newer at k end r c h g p =
     let whole : length table ≡ 8192 = c .whole in
-    let slots : List (List ℕ) = slotsOf 64 table in
+    let slots : List (List ℕ) = slotsIn books table in
     let many : length slots ≡ 128 = rw whole (length-blocks 64 128 table) in
     let wide : 64 * k + 64 - 64 * k ≡ 64 = omega arith in
     let here : getD slots k [] ≡ take 64 (drop (64 * k) table) = rw whole (block-at 64 128 k table h) in
@@ -264,11 +266,11 @@ books-go table old new newer at k end r c h g p =
       so-far = same-text _ _ old newer (2160 * k + 2160) (2160 * (k + 1)) at r (behind _ _ old new newer (2160 * k) 2160 at end r (c .so-far) (rw wide at p)) same (omega arith);
     }
 
-pub books-end : (table old new : List ℕ) (at k end : ℕ) → Booking table old at k end new → 128 ≤ k → Put (linesText (lines (slotsOf 64 table))) 276480 at old new end
+pub books-end : (table old new : List ℕ) (at k end : ℕ) → Booking table old at k end new → 128 ≤ k → Put (linesText (lines (slotsIn books table))) 276480 at old new end
 books-end table old new at k end c h =
     let upto : k ≤ 128 = c .upto in
     let whole : length table ≡ 8192 = c .whole in
-    let slots : List (List ℕ) = slotsOf 64 table in
+    let slots : List (List ℕ) = slotsIn books table in
     let many : length slots ≡ 128 = rw whole (length-blocks 64 128 table) in
     same-text _ _ old new (2160 * k) 276480 at end (c .so-far) (ap (λ (l : List (List ℕ)). linesText (lines l)) (take-all k slots (omega arith))) (omega arith)
 
@@ -280,7 +282,7 @@ end-put answer units at a b c r o p q s t h₁ h₂ h₃ h₄ =
     let p₃ = behind _ _ o q s _ _ at b c p₂ h₃ in
     same-text _ _ o t 52 52 at r (behind _ _ o s t _ _ at c r p₃ h₄) (simp append-assoc) (omega arith)
 
-pub all-put : (table : List ℕ) (answer units a b r : ℕ) (o p q s : List ℕ) → Put headText 37 0 o p a → Put (linesText (lines (slotsOf 64 table))) 276480 a p q b
+pub all-put : (table : List ℕ) (answer units a b r : ℕ) (o p q s : List ℕ) → Put headText 37 0 o p a → Put (linesText (lines (slotsIn books table))) 276480 a p q b
     → Put (endText answer units) 52 b q s r → Put (text (shown table answer units)) 276569 0 o s r
 all-put table answer units a b r o p q s h₁ h₂ h₃ = behind _ _ o q s _ _ 0 b r (behind _ _ o p q _ _ 0 a b h₁ h₂) h₃
 

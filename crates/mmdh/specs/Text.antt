@@ -7,9 +7,9 @@ use lib.ListN.{length, take}
 use lib.IntN.{ℤ, pos, negsuc, subℕ}
 use lib.Dec.{ltb, eqb}
 use Rattle.wire.specs.Number.{bias}
-use Rattle.slots.specs.Slots.{slotsOf}
+use Rattle.slots.specs.Layout.{slotsIn}
 use Rattle.ladder.specs.Message.{bidSide}
-use Rattle.ladder.specs.Words.{bookWidth}
+use Rattle.books.specs.Table.{books}
 use Rattle.ladder.specs.declared.Row.{Row}
 use Rattle.feed.specs.Program.{Line, lines, Printed}
 
@@ -71,7 +71,7 @@ lineOf code side rank r = record { code = code; side = side; rank = rank; price 
 
 -- what is printed of a table, a last answer and the units accepted
 abbrev pub shown : List ℕ → ℕ → ℕ → Printed
-shown table answer units = record { rows = lines (slotsOf bookWidth table); answer = answer; units = units }
+shown table answer units = record { rows = lines (slotsIn books table); answer = answer; units = units }
 
 -- a text of at most `room` bytes stands at `at`, behind what stood before it; it ends at `r`
 pub record Put (words : List ℕ) (room at : ℕ) (old new : List ℕ) (r : ℕ) : Type 0 where

@@ -39,6 +39,18 @@ module _ {A : Type 0} (L : Layout A) (c : ℕ) (step : A → Option A) (t : List
   pub zero-steps : answer L c step t ≡ 0 → turn L c step t .words ≡ stepped L c step t
   zero-steps e = rw e
 
+  -- where the code's own value is what was made of it and all others stay, each is what the message makes of it with no table
+  pub each-value : (u : List ℕ) → step (valueIn L c t) ≡ some (valueIn L c u) → ((d : ℕ) → (c ≡ d → ⊥) → (d ≡ 0 → ⊥) → valueIn L d u ≡ valueIn L d t)
+      → (d : ℕ) → (d ≡ 0 → ⊥) → valueIn L d u ≡ valueAfter d c step (valueIn L d t)
+  unfolding valueAfter orAsItWas
+  each-value u own others d nz = go (eqb c d) refl
+    where
+      go : (b : Bool) → eqb c d ≡ b → valueIn L d u ≡ cond b (orAsItWas (step (valueIn L d t)) (valueIn L d t)) (valueIn L d t)
+      go true e =
+          let q : c ≡ d = eqb-true c d e in
+          rw (← q, own)
+      go false e = others d (eqb-false c d e) nz
+
   module _ {Fit Well : A → Type 0} (laws : Lawful L Fit Well) where
     -- the table is as it was, or has one value written to the slot that the code has or takes
     stepped-either : (P : List ℕ → Type 0) → P t → ((k : ℕ) (a : A) → Lands c (slotsIn L t) k → step (valueIn L c t) ≡ some a → P (wrote L c k a t)) → P (stepped L c step t)
@@ -83,16 +95,8 @@ module _ {A : Type 0} (L : Layout A) (c : ℕ) (step : A → Option A) (t : List
           go (Free k) e f (some a) q x = ap some (sym (wrote-own L laws c k t (inr e) a (fit a q)))
           go Full e f (some a) q x = absurd (true≢false f)
 
-      -- so of each code's value it makes what the message makes of it with no table
       pub stepped-each : (d : ℕ) → (d ≡ 0 → ⊥) → valueIn L d (stepped L c step t) ≡ valueAfter d c step (valueIn L d t)
-      unfolding valueAfter orAsItWas
-      stepped-each d nz = go (eqb c d) refl
-        where
-          go : (b : Bool) → eqb c d ≡ b → valueIn L d (stepped L c step t) ≡ cond b (orAsItWas (step (valueIn L d t)) (valueIn L d t)) (valueIn L d t)
-          go true e =
-              let q : c ≡ d = eqb-true c d e in
-              rw (← q, stepped-own)
-          go false e = stepped-other d (eqb-false c d e) nz
+      stepped-each = each-value (stepped L c step t) stepped-own stepped-other
 
 -- THE FOLD: after messages that are all taken, a code's value is what its own messages make of it, with no table
 module _ {A : Type 0} (L : Layout A) {Fit Well : A → Type 0} (laws : Lawful L Fit Well) where
