@@ -1,6 +1,6 @@
 -- Books are a lawful layout (slots/specs/Lawful): so the laws of slots/proofs hold of the table of books. Assumes nothing.
 use native.Mathlib.Omega.{arith}
-use mathlib.Core.Path.{_≡_, refl}
+use mathlib.Core.Path.{refl}
 use Rattle.ground.specs.Choice.{all}
 use Rattle.slots.specs.Slots.{blocks}
 use Rattle.slots.specs.Lawful.{Lawful}

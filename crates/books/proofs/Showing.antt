@@ -21,7 +21,7 @@ use Rattle.slots.specs.declared.Slot.{Slot}
 use Rattle.slots.specs.declared.Slot.the-variants.{Held, Free, Full}
 use Rattle.slots.proofs.Slot as slot′
 use Rattle.slots.proofs.Turning.{part-is}
-use Rattle.ladder.specs.Message.{listedSide, listedRank, listedCode}
+use Rattle.ladder.specs.Message.{depth, listedSide, listedRank, listedCode}
 use Rattle.ladder.specs.Sides.{noRow}
 use Rattle.ladder.specs.Words.{bookWidth, bidCount, offerCount, bidsAt, offersAt, rowWidth, rowOf, rowsFrom, sound}
 use Rattle.ladder.specs.declared.Row.{Row}
@@ -47,7 +47,7 @@ pub asked-zero : (c side rank : ℕ) (a : Bool) → a ≡ listedCode c → a ≡
 unfolding listedRank
 asked-zero c side rank a e y h l = rw (sym e ∙ y, side-known side h, lt-leb 1 rank l)
 
-pub asked-rank : (c side rank : ℕ) (a : Bool) → a ≡ listedCode c → a ≡ true → side ≤ 1 → 1 ≤ rank → leb rank 10 ≡ asked c side rank
+pub asked-rank : (c side rank : ℕ) (a : Bool) → a ≡ listedCode c → a ≡ true → side ≤ 1 → 1 ≤ rank → leb rank depth ≡ asked c side rank
 unfolding listedRank
 asked-rank c side rank a e y h l = rw (sym e ∙ y, side-known side h, le-leb 1 rank l)
 
@@ -66,7 +66,7 @@ unfolding rowOfSide
 row-shown base n rank w r p h e q = rw (q, e, le-ltb n rank h)
 
 -- a row of a book that is sound
-module _ (t : Bool) (w : List ℕ) (e : t ≡ sound w) (y : t ≡ true) (rank : ℕ) (low : 1 ≤ rank) (high : rank ≤ 10) where
+module _ (t : Bool) (w : List ℕ) (e : t ≡ sound w) (y : t ≡ true) (rank : ℕ) (low : 1 ≤ rank) (high : rank ≤ depth) where
   pub bid-price : rank ≤ bidCount w → rowOf (drop (bidsAt + rowWidth * (rank - 1)) w) .price < word32
   bid-price h = subst (λ (r : Row). r .price < word32) (row-is bidsAt w (rank - 1) (omega arith)) (bid-bounds w (sym e ∙ y) (rank - 1) (omega arith) .0)
 
@@ -102,7 +102,7 @@ read-none c side rank t a (Free k) x ea y ef o h = h ∙ no-book-read c side ran
 read-none c side rank t a Full x ea y ef o h = h ∙ no-book-read c side rank t (sym ea ∙ y) Full (sym ef) refl
 
 -- the row by the side's own rows is the row by its words
-side-read : (base n rank : ℕ) (w : List ℕ) → n ≤ 10 → 1 ≤ rank → rank ≤ 10
+side-read : (base n rank : ℕ) (w : List ℕ) → n ≤ depth → 1 ≤ rank → rank ≤ depth
     → cond (eqb (cond (ltb (length (take n (rowsFrom base w))) rank) 4 0) 0) (rowShown (getD (take n (rowsFrom base w)) (rank - 1) noRow))
     (rowRefused (cond (ltb (length (take n (rowsFrom base w))) rank) 4 0))
     ≡ rowOfSide base n rank w
@@ -117,23 +117,23 @@ side-read base n rank w h low high =
     go (yes a) = rw (lt-ltb n rank a)
     go (no a) = rw (le-ltb n rank (omega arith), getD-take n (rowsFrom base w) (rank - 1) noRow (omega arith), row-is base w (rank - 1) (omega arith))
 
-held-row : (c side rank k : ℕ) (t : List ℕ) → asked c side rank ≡ true → 1 ≤ rank → rank ≤ 10 → placeIn c t ≡ Held k → (y : Bool) → sound (block k t) ≡ y → (b : Bool) → eqb side 0 ≡ b
+held-row : (c side rank k : ℕ) (t : List ℕ) → asked c side rank ≡ true → 1 ≤ rank → rank ≤ depth → placeIn c t ≡ Held k → (y : Bool) → sound (block k t) ≡ y → (b : Bool) → eqb side 0 ≡ b
     → readRow c side rank t ≡ rowOfBook side rank (block k t)
 unfolding readRow readAnswer rowOfBook noBook table.unsoundAt table.valueAt first
 held-row c side rank k t a low high e false ey b eb = rw (a, e, ey)
 held-row c side rank k t a low high e true ey true eb = rw (a, e, ey, eb) (side-read bidsAt (bidCount (block k t)) rank (block k t) (few-bids (block k t) ey) low high)
 held-row c side rank k t a low high e true ey false eb = rw (a, e, ey, eb) (side-read offersAt (offerCount (block k t)) rank (block k t) (few-offers (block k t) ey) low high)
 
-rank-listed : (c side rank : ℕ) → asked c side rank ≡ true → (1 ≤ rank) × (rank ≤ 10)
+rank-listed : (c side rank : ℕ) → asked c side rank ≡ true → (1 ≤ rank) × (rank ≤ depth)
 unfolding listedRank
 rank-listed c side rank e =
-    let q = both (leb 1 rank) (leb rank 10) (both (listedCode c && listedSide side) (leb 1 rank && leb rank 10) e .1) in
-    (leb-true 1 rank (q .0), leb-true rank 10 (q .1))
+    let q = both (leb 1 rank) (leb rank depth) (both (listedCode c && listedSide side) (leb 1 rank && leb rank depth) e .1) in
+    (leb-true 1 rank (q .0), leb-true rank depth (q .1))
 
 pub rank-low : (c side rank : ℕ) (a : Bool) → a ≡ asked c side rank → a ≡ true → 1 ≤ rank
 rank-low c side rank a e y = rank-listed c side rank (sym e ∙ y) .0
 
-pub rank-high : (c side rank : ℕ) (a : Bool) → a ≡ asked c side rank → a ≡ true → rank ≤ 10
+pub rank-high : (c side rank : ℕ) (a : Bool) → a ≡ asked c side rank → a ≡ true → rank ≤ depth
 rank-high c side rank a e y = rank-listed c side rank (sym e ∙ y) .1
 
 pub read-slot : (side rank k : ℕ) (t : List ℕ) (x : RowRead) → k < countIn books (length t)

@@ -2,12 +2,11 @@
 use Prim.Native.Nat.{ℕ, _+_, _-_, _*_, _≤_, _<_}
 use native.Mathlib.Omega.{arith}
 use mathlib.Core.Path.{_≡_, refl, sym, ap, _∙_}
-use mathlib.Core.Bool.{Bool, true, false, cond, _&&_}
+use mathlib.Core.Bool.{Bool, true, false}
 use mathlib.Core.List.{List, [], _∷_}
-use mathlib.Core.Logic.{inl, inr}
 use mathlib.Core.Option.{Option, none, some}
 use lib.Dec.{leb}
-use lib.ListN.{length, take, drop, getD, length-drop, take-append-drop}
+use lib.ListN.{length, take, drop, getD, length-drop}
 use lib.Seq.{take-all}
 use borrow.Author.Needs.{needs}
 use borrow.Author.Tests.{lt-leb, le-leb, lt-ltb}
@@ -70,7 +69,8 @@ module _ (own t : Bool) (w : List ℕ) (rows : List (List Row)) (counts : List �
       go true q = sides-padded w q
       go false q = empty-sides
 
-  pub ready-turn : (u : List ℕ) (c time x : ℕ) (es : List Entry) → landed x u ≡ settled c (walk time es (arrays.bookIn rows counts)) w → landed x u ≡ slotTurn books own c (walk time es) w
+  pub ready-turn : (u : List ℕ) (c time x : ℕ) (es : List Entry) → landed x u ≡ settled c (walk time es (arrays.bookIn rows counts)) w
+      → landed x u ≡ slotTurn books own c (walk time es) w
   unfolding slotTurn
   ready-turn u c time x es h =
       h ∙ settled-in c (walk time es (arrays.bookIn rows counts)) w ∙ rw (r, k, go own, sym e ∙ y)
@@ -114,7 +114,8 @@ module _ (time : ℕ) (m t : List ℕ) (k : ℕ) (ek : k ≡ field 11 1 m) where
       let n : noEntries m ≡ 0 = sym ek ∙ e in
       rw n
 
-  pub placed-turn : (c r : ℕ) (u : List ℕ) → c ≡ field 4 4 m → length m ≡ 12 + 24 * noEntries m → landed r u ≡ placeTurn books (placeIn c t) c (walk time (entriesFrom k 0 (partOf m))) t
+  pub placed-turn : (c r : ℕ) (u : List ℕ) → c ≡ field 4 4 m → length m ≡ 12 + 24 * noEntries m
+      → landed r u ≡ placeTurn books (placeIn c t) c (walk time (entriesFrom k 0 (partOf m))) t
       → (k ≡ 0 → ⊥) → landed r u ≡ bookTurn time m t
   placed-turn c r u ec h q nz =
       let more : hasEntries m ≡ true = lt-ltb 0 (noEntries m) (omega (arith, ek, nz)) in

@@ -5,7 +5,7 @@ ghost use Prim.Native.Nat.{_+_, _-_, _*_, _<_, _≤_};
 ghost use lib.ListN.{length, drop};
 ghost use Rattle.slots.specs.Layout.{landed, countIn};
 ghost use Rattle.slots.specs.Turns.{ready, slotTurn, within, placeTurn};
-ghost use Rattle.ladder.specs.Message.{noEntries, entriesAt, entrySize, entriesFrom, listedCode, listedBook, listedSide, listedRank};
+ghost use Rattle.ladder.specs.Message.{depth, noEntries, entriesAt, entrySize, entriesFrom, listedCode, listedBook, listedSide, listedRank};
 ghost use Rattle.ladder.specs.Walk.{walk};
 ghost use Rattle.ladder.specs.Words.{bookWidth, rowWidth, rowOf};
 ghost use Rattle.wire.specs.Number.{word32};
@@ -17,6 +17,7 @@ use slots::Slot;
 
 // "One book is 64 words; slots are whole blocks of 64, at most 4,096"
 pub const WIDTH: usize = 64;
+
 pub const MOST: usize = 4096;
 
 // What reading a row gives: the answer, and with answer 0 the row, its price signed as sent.
@@ -171,7 +172,7 @@ fn is_asked(code: u64, side: u64, rank: u64) -> bool
 
 // A row of a side of n rows that begins at a word: 4 where there is no such row.
 fn row_of_side(words: &[u64], base: usize, n: u64, rank: u64) -> RowRead
-    requires { ⌜ (base + 30 ≤ length (now words)) × (1 ≤ rank) × (rank ≤ 10) × (rank ≤ n → rowOf (drop (base + rowWidth * (rank - 1)) (now words)) .price < word32) ⌝ }
+    requires { ⌜ (base + rowWidth * depth ≤ length (now words)) × (1 ≤ rank) × (rank ≤ depth) × (rank ≤ n → rowOf (drop (base + rowWidth * (rank - 1)) (now words)) .price < word32) ⌝ }
     ensures { λ r. ⌜ r ≡ rowOfSide base n rank (now (words .entry)) ⌝ }
 {
     if n < rank {
@@ -190,7 +191,7 @@ fn row_of_side(words: &[u64], base: usize, n: u64, rank: u64) -> RowRead
 
 // A row of the book in a slot's words: 18 where the book is not sound.
 fn row_of_book(words: &[u64], side: u64, rank: u64) -> RowRead
-    requires { ⌜ (length (now words) ≡ bookWidth) × (1 ≤ rank) × (rank ≤ 10) ⌝ }
+    requires { ⌜ (length (now words) ≡ bookWidth) × (1 ≤ rank) × (rank ≤ depth) ⌝ }
     ensures { λ r. ⌜ r ≡ rowOfBook side rank (now (words .entry)) ⌝ }
 {
     if ladder::is_sound(words) {
@@ -204,7 +205,7 @@ fn row_of_book(words: &[u64], side: u64, rank: u64) -> RowRead
 
 // A row of the book in slot k of the table.
 fn row_in_slot(table: &[u64], k: usize, side: u64, rank: u64) -> RowRead
-    requires { ⌜ (k < countIn books (length (now table))) × (1 ≤ rank) × (rank ≤ 10) ⌝ }
+    requires { ⌜ (k < countIn books (length (now table))) × (1 ≤ rank) × (rank ≤ depth) ⌝ }
     ensures { λ r. ⌜ r ≡ rowOfBook side rank (blockOf k (now (table .entry))) ⌝ }
 {
     let a = WIDTH * k;

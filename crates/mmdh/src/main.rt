@@ -14,9 +14,9 @@ ghost use Rattle.feed.specs.Steps.{accepted};
 ghost use Rattle.feed.specs.Program.{bufferSize, connection, sideLines, lines};
 ghost use Rattle.mmdh.specs.Runs.{Within, Called, Refilled, Turned, Drained, Wrote};
 ghost use Rattle.mmdh.specs.Text.{decimal, signed, space, letter, lineOf, lineText, linesText, endText, shown, text, Put};
-use ladder::Row;
 use feed::Feed;
 use feed::Link;
+use ladder::Row;
 
 // How far a run has come: the last answer, the units accepted, the feed, the bytes of the buffer that are left (`from` up to
 // `to`), and whether the run is over.

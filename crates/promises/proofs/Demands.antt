@@ -15,7 +15,7 @@ use Rattle.wire.specs.declared.Unit.{Unit}
 use Rattle.wire.specs.declared.Unit.the-variants as unit
 use Rattle.wire.proofs.Fronts.{unit-fits, unit-stays}
 use Rattle.ground.proofs.Choices.{first-may, first-skips}
-use Rattle.books.specs.Table.{unsound, noSlot, misfits, booksAfter}
+use Rattle.books.specs.Table.{bookIn, unsound, noSlot, misfits, booksAfter}
 use Rattle.books.proofs.Frames.{books-own, books-slots, books-other, books-length, books-tail, book-sound-in}
 use Rattle.ladder.proofs.Orders.{price-once}
 use Rattle.ladder.specs.declared.Way.the-variants.{Bid, Offer}
@@ -172,8 +172,8 @@ sound limit n es h =
 pub once : D.Once
 once limit n es h c i j ne =
     let b = sound limit n es h .1 c in (
-      λ x y. price-once Bid (D.bookIn c (run (start limit n) es .tables .books) .bids) i j (b .bids .best) x y ne,
-      λ x y. price-once Offer (D.bookIn c (run (start limit n) es .tables .books) .offers) i j (b .offers .best) x y ne,
+      λ x y. price-once Bid (bookIn c (run (start limit n) es .tables .books) .bids) i j (b .bids .best) x y ne,
+      λ x y. price-once Offer (bookIn c (run (start limit n) es .tables .books) .offers) i j (b .offers .best) x y ne,
     )
 
 pub green : D.Green

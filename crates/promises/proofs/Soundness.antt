@@ -3,9 +3,8 @@ use Prim.Native.Nat.{ℕ}
 use mathlib.Core.Path.{_≡_, refl, sym, ap, _∙_, subst}
 use mathlib.Core.Bool.{Bool, true, false, cond, _&&_, true≢false}
 use mathlib.Core.List.{List, [], _∷_, _++_}
-use lib.Dec.{T, eqb}
+use lib.Dec.{T}
 use lib.ListN.{drop, replicate}
-use borrow.Author.Tests.{eqb-true, eqb-false}
 use Rattle.ground.specs.Choice.{all}
 use Rattle.wire.specs.Number.{bytesOnly}
 use Rattle.wire.specs.Units.{unitOf}

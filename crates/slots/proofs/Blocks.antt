@@ -162,6 +162,6 @@ module _ (most w : ℕ) where
     same-tail = tail-put w (slotCount most w (length t)) k b t h (slots-fit most w (length t)) e
 
   -- blocks put in two of the slots may change places
-  pub slots-comm : (j k : ℕ) (a b t : List ℕ) → j < slotCount most w (length t) → k < slotCount most w (length t) → (j ≡ k → ⊥) → length a ≡ w → length b ≡ w
-      → put w k b (put w j a t) ≡ put w j a (put w k b t)
+  pub slots-comm : (j k : ℕ) (a b t : List ℕ) → j < slotCount most w (length t) → k < slotCount most w (length t) → (j ≡ k → ⊥)
+      → length a ≡ w → length b ≡ w → put w k b (put w j a t) ≡ put w j a (put w k b t)
   slots-comm j k a b t hj hk ne = put-comm w (slotCount most w (length t)) j k a b t hj hk ne (slots-fit most w (length t))

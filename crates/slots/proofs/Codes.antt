@@ -1,4 +1,5 @@
--- From a cleared table on, codes take the slots in the order in which they come: so there is room for as many codes as slots. Over any lawful layout. Assumes nothing.
+-- From a cleared table on, codes take the slots in the order in which they come, so there is room for as many codes as slots.
+-- Over any lawful layout. Assumes nothing.
 use Prim.Native.Nat.{ℕ, zero, suc, _+_, _≤_, _<_, zero-le}
 use native.Mathlib.Nat.{not-suc-le-zero, le-of-suc-le-suc}
 use native.Mathlib.Omega.{arith}
@@ -18,11 +19,10 @@ use Rattle.slots.specs.Layout.{Layout, noneFree, misfit, countIn, slotsI
 use Rattle.slots.specs.Lawful.{Lawful}
 use Rattle.slots.specs.declared.Slot.{Slot}
 use Rattle.slots.specs.declared.Slot.the-variants.{Held, Free, Full}
-use Rattle.slots.proofs.Blocks.{length-slots}
-use Rattle.slots.proofs.Lookup.{codeAt, held-is, free-is, full-is, held-code, free-code, lowest-before}
-use Rattle.slots.proofs.Frame.{Lands, lands-fits}
+use Rattle.slots.proofs.Lookup.{codeAt, free-is, full-is, held-code, free-code, lowest-before}
+use Rattle.slots.proofs.Frame.{Lands}
 use Rattle.slots.proofs.Zeros.{code-zero, slots-cleared}
-use Rattle.slots.proofs.Values.{wrote, wrote-length, wrote-slots}
+use Rattle.slots.proofs.Values.{length-in, lands-in, wrote, wrote-length, wrote-slots}
 
 -- a number among those listed stands somewhere, and the other way round
 one-at : (c : ℕ) (cs : List ℕ) → oneOf c cs ≡ true → ((j : ℕ) → j < length cs → getD cs j 0 ≡ c → ⊥) → ⊥
@@ -66,7 +66,7 @@ module _ {A : Type 0} (L : Layout A) where
 
   module _ (c : ℕ) (t cs : List ℕ) (f : Filled t cs) where
     slots : length (slotsIn L t) ≡ countIn L (length t)
-    slots = length-slots (L .most) (L .width) t
+    slots = length-in L t
 
     -- where there is room for the code among the codes, there is a slot
     not-full : length (withCode c cs) ≤ countIn L (length t) → placeIn L c t ≡ Full → ⊥
@@ -122,7 +122,8 @@ module _ {A : Type 0} (L : Layout A) where
     module _ {Fit Well : A → Type 0} (laws : Lawful L Fit Well) (nz : c ≡ 0 → ⊥) (a : A) where
       -- a value of the code written to the slot that it has or takes
       put-filled : (k : ℕ) → Lands c (slotsIn L t) k → (ds : List ℕ) → length ds ≤ countIn L (length t) → getD ds k 0 ≡ c
-          → ((j : ℕ) → (j ≡ k → ⊥) → getD ds j 0 ≡ getD cs j 0) → ((j : ℕ) → j < length ds → getD ds j 0 ≡ 0 → ⊥) → Filled (wrote L c k a t) ds
+          → ((j : ℕ) → (j ≡ k → ⊥) → getD ds j 0 ≡ getD cs j 0) → ((j : ℕ) → j < length ds → getD ds j 0 ≡ 0 → ⊥)
+          → Filled (wrote L c k a t) ds
       put-filled k h ds l same other named = record {
         fit = rw (wrote-length L laws c k t h a) l;
         here = λ j. ap (λ (bs : List (List ℕ)). codeAt bs j) (wrote-slots L laws c k t h a) ∙ go j (ℕ-discrete j k);
@@ -130,18 +131,22 @@ module _ {A : Type 0} (L : Layout A) where
       }
         where
           go : (j : ℕ) → Dec (j ≡ k) → codeAt (set (slotsIn L t) k (L .words c a)) j ≡ getD ds j 0
-          go j (yes e) = rw e (ap codeOf (getD-set-same (slotsIn L t) k (L .words c a) [] (rw slots (lands-fits (L .most) (L .width) c k t h))) ∙ laws .opens c a ∙ sym same)
+          go j (yes e) =
+              let there = getD-set-same (slotsIn L t) k (L .words c a) [] (rw slots (lands-in L c k t h)) in
+              rw e (ap codeOf there ∙ laws .opens c a ∙ sym same)
           go j (no e) = ap codeOf (getD-set-other (slotsIn L t) k j (L .words c a) [] e) ∙ f .here j ∙ sym (other j e)
 
       write-held : (k : ℕ) → placeIn L c t ≡ Held k → Filled (wrote L c k a t) (withCode c cs)
       unfolding withCode
-      write-held k p = rw (held k nz p) (put-filled k (inl p) cs (f .fit) (sym (f .here k) ∙ held-code c (slotsIn L t) k p) (λ j e. refl) (f .named))
+      write-held k p =
+          let same : getD cs k 0 ≡ c = sym (f .here k) ∙ held-code c (slotsIn L t) k p in
+          rw (held k nz p) (put-filled k (inl p) cs (f .fit) same (λ j e. refl) (f .named))
 
       write-free : (k : ℕ) → placeIn L c t ≡ Free k → Filled (wrote L c k a t) (withCode c cs)
       unfolding withCode
       write-free k p =
           let e : k ≡ length cs = free-end k p in
-          let h : k < countIn L (length t) = lands-fits (L .most) (L .width) c k t (inr p) in
+          let h : k < countIn L (length t) = lands-in L c k t (inr p) in
           let w : length (cs ++ (c ∷ [])) ≡ length cs + 1 = length-append cs (c ∷ []) in
           rw (not-among k p (oneOf c cs) refl)
           (put-filled k (inr p) (cs ++ (c ∷ [])) (omega (arith, w, e, h)) (rw e (getD-append-seam cs c [] 0))

@@ -1,4 +1,5 @@
--- A table of n words, of which those behind the slots are zero, as it is after a start with n zero words: it stays so, and a clearing gives the start again. Assumes nothing.
+-- A table of n words, of which those behind the slots are zero: n zero words are one, a message keeps it so, a clearing gives the zero words again.
+-- Over any lawful layout. Assumes nothing.
 use Prim.Native.Nat.{ℕ, zero, suc, _+_, _-_, _*_}
 use native.Mathlib.Omega.{arith}
 use mathlib.Core.Path.{_≡_, ap, _∙_}
@@ -38,7 +39,8 @@ module _ {A : Type 0} (L : Layout A) where
       (ap (λ (k : ℕ). replicate k 0) (let e : slotted n + (n - slotted n) ≡ n = omega (arith, slots-fit (L .most) (L .width) n) in e))
 
   -- a message keeps it so
-  pub stepped-ours : {Fit Well : A → Type 0} → Lawful L Fit Well → (n c : ℕ) (step : A → Option A) (t : List ℕ) → Ours n t → Ours n (stepped L c step t)
+  pub stepped-ours : {Fit Well : A → Type 0} → Lawful L Fit Well → (n c : ℕ) (step : A → Option A) (t : List ℕ)
+      → Ours n t → Ours n (stepped L c step t)
   stepped-ours laws n c step t o = record {
     long = stepped-length L c step t laws ∙ o .long;
     rest = rw (← o .long) (stepped-tail L c step t laws ∙ rw (o .long) (o .rest));

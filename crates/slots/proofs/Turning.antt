@@ -10,13 +10,14 @@ use lib.ListN.{length, take, drop}
 use borrow.Rule.Slice.PartMut.{putMid}
 use Rattle.ground.specs.Choice.{first}
 use Rattle.slots.specs.Slots.{slotCount, slotsOf, place}
-use Rattle.slots.specs.Layout.{Layout, Landed, landed, noneFree, misfit, countIn, block, placeIn, unsoundAt, valueAt, valueIn, written, answer, stepped, turn}
+use Rattle.slots.specs.Layout.{Layout, Landed, landed, noneFree, misfit, countIn, block, placeIn, unsoundAt, valueAt, written}
+use Rattle.slots.specs.Layout.{answer, stepped, turn}
 use Rattle.slots.specs.Turns.{ready, settledIn, slotTurn, within, placeTurn}
 use Rattle.slots.specs.declared.Slot.{Slot}
 use Rattle.slots.specs.declared.Slot.the-variants.{Held, Free, Full}
 use Rattle.slots.proofs.Blocks.{block-at, put-same}
 use Rattle.slots.proofs.Frame.{lands-fits}
-use Rattle.slots.proofs.Values.{wrote}
+use Rattle.slots.proofs.Values.{lands-in, wrote}
 
 -- the slot that was found is one of the slots
 pub held-fits : (most w c k : ℕ) (t : List ℕ) (f : Slot) → f ≡ place c (slotsOf most w t) → f ≡ Held k → k < slotCount most w (length t)
@@ -27,7 +28,8 @@ free-fits most w c k t f e h = lands-fits most w c k t (inr (sym e ∙ h))
 
 module _ {A : Type 0} (L : Layout A) where
   -- a slot that is not ready
-  pub unready-turn : (own r : Bool) (w : List ℕ) (c : ℕ) (step : A → Option A) → r ≡ ready L own w → r ≡ false → landed 18 w ≡ slotTurn L own c step w
+  pub unready-turn : (own r : Bool) (w : List ℕ) (c : ℕ) (step : A → Option A) → r ≡ ready L own w → r ≡ false
+      → landed 18 w ≡ slotTurn L own c step w
   unfolding slotTurn
   unready-turn own r w c step e n = rw (sym e ∙ n)
 
@@ -46,11 +48,13 @@ module _ {A : Type 0} (L : Layout A) where
 
   -- by the slot that was found
   module _ (c : ℕ) (step : A → Option A) (t : List ℕ) (f : Slot) (e : f ≡ placeIn L c t) where
-    pub held-turn : (k : ℕ) (x : Landed) → f ≡ Held k → x ≡ within L k t (slotTurn L true c step (block L k t)) → x ≡ placeTurn L (placeIn L c t) c step t
+    pub held-turn : (k : ℕ) (x : Landed) → f ≡ Held k → x ≡ within L k t (slotTurn L true c step (block L k t))
+        → x ≡ placeTurn L (placeIn L c t) c step t
     unfolding placeTurn
     held-turn k x h q = q ∙ rw (sym e ∙ h)
 
-    pub free-turn : (k : ℕ) (x : Landed) → f ≡ Free k → x ≡ within L k t (slotTurn L false c step (block L k t)) → x ≡ placeTurn L (placeIn L c t) c step t
+    pub free-turn : (k : ℕ) (x : Landed) → f ≡ Free k → x ≡ within L k t (slotTurn L false c step (block L k t))
+        → x ≡ placeTurn L (placeIn L c t) c step t
     unfolding placeTurn
     free-turn k x h q = q ∙ rw (sym e ∙ h)
 
@@ -61,7 +65,8 @@ module _ {A : Type 0} (L : Layout A) where
   module _ (c : ℕ) (step : A → Option A) (t : List ℕ) where
     -- the slot that the code holds or takes is ready
     settles : (k : ℕ) → k < countIn L (length t) → (p : Slot) → placeIn L c t ≡ p → (r : Option A) → step (valueAt L p t) ≡ r
-        → unsoundAt L p t ≡ false → noneFree p ≡ false → ((a : A) → written L p c (some a) t ≡ wrote L c k a t) → within L k t (settledIn L c r (block L k t)) ≡ turn L c step t
+        → unsoundAt L p t ≡ false → noneFree p ≡ false → ((a : A) → written L p c (some a) t ≡ wrote L c k a t)
+        → within L k t (settledIn L c r (block L k t)) ≡ turn L c step t
     unfolding answer stepped misfit first
     settles k h p e none q s f w = rw (e, s, f, q) (ap (landed 16) (put-same (L .most) (L .width) k t h))
     settles k h p e (some a) q s f w = rw (e, s, f, q) (sym (ap (landed 0) (w a)))
@@ -74,8 +79,8 @@ module _ {A : Type 0} (L : Layout A) where
 
     at-slot : (p : Slot) → placeIn L c t ≡ p → placeTurn L p c step t ≡ turn L c step t
     unfolding placeTurn slotTurn valueAt unsoundAt noneFree written answer first
-    at-slot (Held k) e = own k (lands-fits (L .most) (L .width) c k t (inl e)) e (L .sound (block L k t)) refl
-    at-slot (Free k) e = settles k (lands-fits (L .most) (L .width) c k t (inr e)) (Free k) e (step (L .empty)) refl refl refl (λ a. refl)
+    at-slot (Held k) e = own k (lands-in L c k t (inl e)) e (L .sound (block L k t)) refl
+    at-slot (Free k) e = settles k (lands-in L c k t (inr e)) (Free k) e (step (L .empty)) refl refl refl (λ a. refl)
     at-slot Full e = rw e
 
     pub turn-is : placeTurn L (placeIn L c t) c step t ≡ turn L c step t
