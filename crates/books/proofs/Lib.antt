@@ -1,3 +1,4 @@
+pub mod Lawful
 pub mod Turning
 pub mod Showing
 pub mod Frames

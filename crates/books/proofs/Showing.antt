@@ -15,21 +15,23 @@ use lib.Seq.{length-take-le, getD-take}
 use borrow.Author.Tests.{lt-leb, le-leb, lt-ltb, le-ltb, eq-eqb, ne-eqb, leb-true}
 use Rattle.ground.specs.Choice.{first}
 use Rattle.wire.specs.Number.{bias, word32}
-use Rattle.slots.specs.Slots.{slotCount, slotsOf, place}
+use Rattle.slots.specs.Layout as table
+use Rattle.slots.specs.Layout.{countIn}
 use Rattle.slots.specs.declared.Slot.{Slot}
 use Rattle.slots.specs.declared.Slot.the-variants.{Held, Free, Full}
 use Rattle.slots.proofs.Slot as slot′
-use Rattle.ladder.specs.Message.{listedSide, listedRank, listedCode}
+use Rattle.slots.proofs.Turning.{part-is}
+use Rattle.ladder.specs.Message.{depth, listedSide, listedRank, listedCode}
 use Rattle.ladder.specs.Sides.{noRow}
-use Rattle.ladder.specs.Words.{bidCount, offerCount, rowOf, rowsFrom, sound}
+use Rattle.ladder.specs.Words.{bookWidth, bidCount, offerCount, bidsAt, offersAt, rowWidth, rowOf, rowsFrom, sound}
 use Rattle.ladder.specs.declared.Row.{Row}
 use Rattle.ladder.proofs.Walks.{side-known, side-unknown}
 use Rattle.ladder.proofs.Loads.{rows-ten, row-is}
 use Rattle.ladder.proofs.Tells.{few-bids, few-offers, bid-bounds, offer-bounds}
-use Rattle.books.specs.Table.{placeIn, block, unsoundAt, bookAt}
+use Rattle.books.specs.Table.{books, placeIn, block}
 use Rattle.books.specs.Reading.{noBook, readAnswer, rowRefused, rowShown, readRow, rowOfSide, rowOfBook}
 use Rattle.books.specs.declared.RowRead.{RowRead}
-use Rattle.books.proofs.Turning.{turning, part-is}
+use Rattle.books.proofs.Turning.{turning}
 
 -- code, side and rank
 abbrev pub asked : ℕ → ℕ → ℕ → Bool
@@ -45,7 +47,7 @@ pub asked-zero : (c side rank : ℕ) (a : Bool) → a ≡ listedCode c → a ≡
 unfolding listedRank
 asked-zero c side rank a e y h l = rw (sym e ∙ y, side-known side h, lt-leb 1 rank l)
 
-pub asked-rank : (c side rank : ℕ) (a : Bool) → a ≡ listedCode c → a ≡ true → side ≤ 1 → 1 ≤ rank → leb rank 10 ≡ asked c side rank
+pub asked-rank : (c side rank : ℕ) (a : Bool) → a ≡ listedCode c → a ≡ true → side ≤ 1 → 1 ≤ rank → leb rank depth ≡ asked c side rank
 unfolding listedRank
 asked-rank c side rank a e y h l = rw (sym e ∙ y, side-known side h, le-leb 1 rank l)
 
@@ -54,28 +56,28 @@ pub no-such : (base n rank : ℕ) (w : List ℕ) (x : RowRead) → x ≡ rowRefu
 unfolding rowOfSide
 no-such base n rank w x e h = e ∙ rw (lt-ltb n rank h)
 
-pub row-bound : (base n rank : ℕ) (w : List ℕ) (r : Row) → (rank ≤ n → rowOf (drop (base + 3 * (rank - 1)) w) .price < word32) → rank ≤ n → r ≡ rowOf (drop (base + 3 * (rank - 1)) w)
+pub row-bound : (base n rank : ℕ) (w : List ℕ) (r : Row) → (rank ≤ n → rowOf (drop (base + rowWidth * (rank - 1)) w) .price < word32) → rank ≤ n → r ≡ rowOf (drop (base + rowWidth * (rank - 1)) w)
     → r .price < word32
 row-bound base n rank w r b h e = rw e (b h)
 
-pub row-shown : (base n rank : ℕ) (w : List ℕ) (r : Row) (p : ℤ) → rank ≤ n → r ≡ rowOf (drop (base + 3 * (rank - 1)) w) → p ≡ subℕ (r .price) bias
+pub row-shown : (base n rank : ℕ) (w : List ℕ) (r : Row) (p : ℤ) → rank ≤ n → r ≡ rowOf (drop (base + rowWidth * (rank - 1)) w) → p ≡ subℕ (r .price) bias
     → _≡_ {A = RowRead} (record { answer = 0; price = p; quantity = r .quantity; orders = r .orders }) (rowOfSide base n rank w)
 unfolding rowOfSide
 row-shown base n rank w r p h e q = rw (q, e, le-ltb n rank h)
 
 -- a row of a book that is sound
-module _ (t : Bool) (w : List ℕ) (e : t ≡ sound w) (y : t ≡ true) (rank : ℕ) (low : 1 ≤ rank) (high : rank ≤ 10) where
-  pub bid-price : rank ≤ getD w 1 0 → rowOf (drop (4 + 3 * (rank - 1)) w) .price < word32
-  bid-price h = subst (λ (r : Row). r .price < word32) (row-is 4 w (rank - 1) (omega arith)) (bid-bounds w (sym e ∙ y) (rank - 1) (omega arith) .0)
+module _ (t : Bool) (w : List ℕ) (e : t ≡ sound w) (y : t ≡ true) (rank : ℕ) (low : 1 ≤ rank) (high : rank ≤ depth) where
+  pub bid-price : rank ≤ bidCount w → rowOf (drop (bidsAt + rowWidth * (rank - 1)) w) .price < word32
+  bid-price h = subst (λ (r : Row). r .price < word32) (row-is bidsAt w (rank - 1) (omega arith)) (bid-bounds w (sym e ∙ y) (rank - 1) (omega arith) .0)
 
-  pub offer-price : rank ≤ getD w 2 0 → rowOf (drop (34 + 3 * (rank - 1)) w) .price < word32
-  offer-price h = subst (λ (r : Row). r .price < word32) (row-is 34 w (rank - 1) (omega arith)) (offer-bounds w (sym e ∙ y) (rank - 1) (omega arith) .0)
+  pub offer-price : rank ≤ offerCount w → rowOf (drop (offersAt + rowWidth * (rank - 1)) w) .price < word32
+  offer-price h = subst (λ (r : Row). r .price < word32) (row-is offersAt w (rank - 1) (omega arith)) (offer-bounds w (sym e ∙ y) (rank - 1) (omega arith) .0)
 
-pub book-bid : (t : Bool) (w : List ℕ) (side rank : ℕ) (x : RowRead) → t ≡ sound w → t ≡ true → side ≡ 0 → x ≡ rowOfSide 4 (getD w 1 0) rank w → x ≡ rowOfBook side rank w
+pub book-bid : (t : Bool) (w : List ℕ) (side rank : ℕ) (x : RowRead) → t ≡ sound w → t ≡ true → side ≡ 0 → x ≡ rowOfSide bidsAt (bidCount w) rank w → x ≡ rowOfBook side rank w
 unfolding rowOfBook
 book-bid t w side rank x e y d h = h ∙ rw (sym e ∙ y, eq-eqb side 0 d)
 
-pub book-offer : (t : Bool) (w : List ℕ) (side rank : ℕ) (x : RowRead) → t ≡ sound w → t ≡ true → (side ≡ 0 → ⊥) → x ≡ rowOfSide 34 (getD w 2 0) rank w → x ≡ rowOfBook side rank w
+pub book-offer : (t : Bool) (w : List ℕ) (side rank : ℕ) (x : RowRead) → t ≡ sound w → t ≡ true → (side ≡ 0 → ⊥) → x ≡ rowOfSide offersAt (offerCount w) rank w → x ≡ rowOfBook side rank w
 unfolding rowOfBook
 book-offer t w side rank x e y d h = h ∙ rw (sym e ∙ y, ne-eqb side 0 d)
 
@@ -92,7 +94,7 @@ no-book-read : (c side rank : ℕ) (t : List ℕ) → asked c side rank ≡ true
 unfolding readRow readAnswer first
 no-book-read c side rank t a p e n = rw (a, e, n)
 
-pub read-none : (c side rank : ℕ) (t : List ℕ) (a : Bool) (f : Slot) (x : RowRead) → a ≡ asked c side rank → a ≡ true → f ≡ place c (slotsOf 64 t)
+pub read-none : (c side rank : ℕ) (t : List ℕ) (a : Bool) (f : Slot) (x : RowRead) → a ≡ asked c side rank → a ≡ true → f ≡ placeIn c t
     → Run.OneOf (1 ∷ 2 ∷ []) (Declared.tagOf slot′.the-type f) → x ≡ rowRefused 4 → x ≡ readRow c side rank t
 unfolding noBook
 read-none c side rank t a (Held k) x ea y ef o h = absurd (Run.miss (1 ∷ 2 ∷ []) 0 tt o)
@@ -100,7 +102,7 @@ read-none c side rank t a (Free k) x ea y ef o h = h ∙ no-book-read c side ran
 read-none c side rank t a Full x ea y ef o h = h ∙ no-book-read c side rank t (sym ea ∙ y) Full (sym ef) refl
 
 -- the row by the side's own rows is the row by its words
-side-read : (base n rank : ℕ) (w : List ℕ) → n ≤ 10 → 1 ≤ rank → rank ≤ 10
+side-read : (base n rank : ℕ) (w : List ℕ) → n ≤ depth → 1 ≤ rank → rank ≤ depth
     → cond (eqb (cond (ltb (length (take n (rowsFrom base w))) rank) 4 0) 0) (rowShown (getD (take n (rowsFrom base w)) (rank - 1) noRow))
     (rowRefused (cond (ltb (length (take n (rowsFrom base w))) rank) 4 0))
     ≡ rowOfSide base n rank w
@@ -111,34 +113,34 @@ side-read base n rank w h low high =
   where
     go : Dec (n < rank)
         → cond (eqb (cond (ltb n rank) 4 0) 0) (rowShown (getD (take n (rowsFrom base w)) (rank - 1) noRow)) (rowRefused (cond (ltb n rank) 4 0))
-        ≡ cond (ltb n rank) (rowRefused 4) (rowShown (rowOf (drop (base + 3 * (rank - 1)) w)))
+        ≡ cond (ltb n rank) (rowRefused 4) (rowShown (rowOf (drop (base + rowWidth * (rank - 1)) w)))
     go (yes a) = rw (lt-ltb n rank a)
     go (no a) = rw (le-ltb n rank (omega arith), getD-take n (rowsFrom base w) (rank - 1) noRow (omega arith), row-is base w (rank - 1) (omega arith))
 
-held-row : (c side rank k : ℕ) (t : List ℕ) → asked c side rank ≡ true → 1 ≤ rank → rank ≤ 10 → placeIn c t ≡ Held k → (y : Bool) → sound (block k t) ≡ y → (b : Bool) → eqb side 0 ≡ b
+held-row : (c side rank k : ℕ) (t : List ℕ) → asked c side rank ≡ true → 1 ≤ rank → rank ≤ depth → placeIn c t ≡ Held k → (y : Bool) → sound (block k t) ≡ y → (b : Bool) → eqb side 0 ≡ b
     → readRow c side rank t ≡ rowOfBook side rank (block k t)
-unfolding readRow readAnswer rowOfBook noBook unsoundAt bookAt first
+unfolding readRow readAnswer rowOfBook noBook table.unsoundAt table.valueAt first
 held-row c side rank k t a low high e false ey b eb = rw (a, e, ey)
-held-row c side rank k t a low high e true ey true eb = rw (a, e, ey, eb) (side-read 4 (bidCount (block k t)) rank (block k t) (few-bids (block k t) ey) low high)
-held-row c side rank k t a low high e true ey false eb = rw (a, e, ey, eb) (side-read 34 (offerCount (block k t)) rank (block k t) (few-offers (block k t) ey) low high)
+held-row c side rank k t a low high e true ey true eb = rw (a, e, ey, eb) (side-read bidsAt (bidCount (block k t)) rank (block k t) (few-bids (block k t) ey) low high)
+held-row c side rank k t a low high e true ey false eb = rw (a, e, ey, eb) (side-read offersAt (offerCount (block k t)) rank (block k t) (few-offers (block k t) ey) low high)
 
-rank-listed : (c side rank : ℕ) → asked c side rank ≡ true → (1 ≤ rank) × (rank ≤ 10)
+rank-listed : (c side rank : ℕ) → asked c side rank ≡ true → (1 ≤ rank) × (rank ≤ depth)
 unfolding listedRank
 rank-listed c side rank e =
-    let q = both (leb 1 rank) (leb rank 10) (both (listedCode c && listedSide side) (leb 1 rank && leb rank 10) e .1) in
-    (leb-true 1 rank (q .0), leb-true rank 10 (q .1))
+    let q = both (leb 1 rank) (leb rank depth) (both (listedCode c && listedSide side) (leb 1 rank && leb rank depth) e .1) in
+    (leb-true 1 rank (q .0), leb-true rank depth (q .1))
 
 pub rank-low : (c side rank : ℕ) (a : Bool) → a ≡ asked c side rank → a ≡ true → 1 ≤ rank
 rank-low c side rank a e y = rank-listed c side rank (sym e ∙ y) .0
 
-pub rank-high : (c side rank : ℕ) (a : Bool) → a ≡ asked c side rank → a ≡ true → rank ≤ 10
+pub rank-high : (c side rank : ℕ) (a : Bool) → a ≡ asked c side rank → a ≡ true → rank ≤ depth
 rank-high c side rank a e y = rank-listed c side rank (sym e ∙ y) .1
 
-pub read-slot : (side rank k : ℕ) (t : List ℕ) (x : RowRead) → k < slotCount 64 (length t)
-    → x ≡ rowOfBook side rank (take (64 * k + 64 - 64 * k) (drop (64 * k) t)) → x ≡ rowOfBook side rank (block k t)
-read-slot side rank k t x h q = q ∙ ap (rowOfBook side rank) (part-is k t h)
+pub read-slot : (side rank k : ℕ) (t : List ℕ) (x : RowRead) → k < countIn books (length t)
+    → x ≡ rowOfBook side rank (take (bookWidth * k + bookWidth - bookWidth * k) (drop (bookWidth * k) t)) → x ≡ rowOfBook side rank (block k t)
+read-slot side rank k t x h q = q ∙ ap (rowOfBook side rank) (part-is books k t h)
 
-pub read-held : (c side rank k : ℕ) (t : List ℕ) (a : Bool) (f : Slot) (x : RowRead) → a ≡ asked c side rank → a ≡ true → f ≡ place c (slotsOf 64 t) → f ≡ Held k
+pub read-held : (c side rank k : ℕ) (t : List ℕ) (a : Bool) (f : Slot) (x : RowRead) → a ≡ asked c side rank → a ≡ true → f ≡ placeIn c t → f ≡ Held k
     → x ≡ rowOfBook side rank (block k t) → x ≡ readRow c side rank t
 read-held c side rank k t a f x ea y ef h q =
     let r = rank-listed c side rank (sym ea ∙ y) in

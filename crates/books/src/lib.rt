@@ -3,15 +3,19 @@ ghost use mathlib.Core.Path.{_≡_};
 ghost use mathlib.Core.Bool.{_&&_};
 ghost use Prim.Native.Nat.{_+_, _-_, _*_, _<_, _≤_};
 ghost use lib.ListN.{length, drop};
-ghost use Rattle.slots.specs.Slots.{slotCount};
-ghost use Rattle.ladder.specs.Message.{noEntries, entriesAt, entrySize, entriesFrom, listedCode, listedBook, listedSide, listedRank};
-ghost use Rattle.ladder.specs.Words.{rowOf};
+ghost use Rattle.slots.specs.Layout.{landed, countIn, clearedIn};
+ghost use Rattle.slots.specs.Turns.{ready, slotTurn, within, placeTurn};
+ghost use Rattle.ladder.specs.Message.{depth, noEntries, entriesAt, entrySize, entriesFrom, listedCode, listedBook, listedSide, listedRank};
+ghost use Rattle.ladder.specs.Walk.{walk};
+ghost use Rattle.ladder.specs.Words.{bookWidth, rowWidth, sideWidth, rowOf};
 ghost use Rattle.wire.specs.Number.{word32};
-ghost use Rattle.ladder.specs.Code.Loading.{met};
-ghost use Rattle.books.specs.Table.{placeIn, block as blockOf};
-ghost use Rattle.books.specs.Turns.{ready, startRows, startCounts, slotMet, within, placeMet, bookTurn};
+ghost use Rattle.books.specs.Table.{books, placeIn, block as blockOf};
+ghost use Rattle.books.specs.Turns.{startRows, startCounts, bookTurn};
 ghost use Rattle.books.specs.Reading.{rowRefused, rowOfSide, rowOfBook, readRow};
+use ladder::BOOK_WORDS;
+use ladder::DEPTH;
 use ladder::Row;
+use slots::MOST;
 use slots::Slot;
 
 // What reading a row gives: the answer, and with answer 0 the row, its price signed as sent.
@@ -24,8 +28,8 @@ pub struct RowRead {
 
 // Whether a slot can be worked on: a code's own book has to be sound, and of a free slot nothing is asked.
 fn is_ready(words: &[u64], own: bool) -> bool
-    requires { ⌜ length (now words) ≡ 64 ⌝ }
-    ensures { λ r. ⌜ r ≡ ready own (now (words .entry)) ⌝ }
+    requires { ⌜ length (now words) ≡ bookWidth ⌝ }
+    ensures { λ r. ⌜ r ≡ ready books own (now (words .entry)) ⌝ }
 {
     if own {
         return ladder::is_sound(words);
@@ -34,8 +38,8 @@ fn is_ready(words: &[u64], own: bool) -> bool
 }
 
 // The ten rows of each side of a slot's book; whatever the words of a free slot are, its book starts empty.
-fn rows_in(words: &[u64], own: bool) -> [[Row; 10]; 2]
-    requires { ⌜ length (now words) ≡ 64 ⌝ }
+fn rows_in(words: &[u64], own: bool) -> [[Row; DEPTH]; 2]
+    requires { ⌜ length (now words) ≡ bookWidth ⌝ }
     ensures { λ r. ⌜ r ≡ startRows own (now (words .entry)) ⌝ }
 {
     if own {
@@ -46,19 +50,22 @@ fn rows_in(words: &[u64], own: bool) -> [[Row; 10]; 2]
 
 // How many rows of each side are used.
 fn counts_in(words: &[u64], own: bool) -> [usize; 2]
-    requires { ⌜ length (now words) ≡ 64 ⌝ }
+    requires { ⌜ length (now words) ≡ bookWidth ⌝ }
     ensures { λ r. ⌜ r ≡ startCounts own (now (words .entry)) ⌝ }
 {
     if own {
-        return [words[1] as usize, words[2] as usize];
+        return [
+            words[ladder::BID_COUNT_AT] as usize,
+            words[ladder::OFFER_COUNT_AT] as usize,
+        ];
     }
     [0; 2]
 }
 
 // A slot's words after n entries: 18 where it is a code's own and its book is not sound.
 fn in_words(words: &mut [u64], own: bool, code: u64, part: &[u8], n: usize, time: u64) -> u64
-    requires { ⌜ (length (now words) ≡ 64) × (entrySize * n ≤ length (now part)) ⌝ }
-    ensures { λ r. ⌜ met r (now (words .exit)) ≡ slotMet own code time (entriesFrom n 0 (now (part .entry))) (now (words .entry)) ⌝ }
+    requires { ⌜ (length (now words) ≡ bookWidth) × (entrySize * n ≤ length (now part)) ⌝ }
+    ensures { λ r. ⌜ landed r (now (words .exit)) ≡ slotTurn books own code (walk time (entriesFrom n 0 (now (part .entry)))) (now (words .entry)) ⌝ }
 {
     if is_ready(words, own) {
         let rows = rows_in(words, own);
@@ -78,20 +85,20 @@ fn in_slot(
     n: usize,
     time: u64,
 ) -> u64
-    requires { ⌜ (k < slotCount 64 (length (now table))) × (entrySize * n ≤ length (now part)) ⌝ }
-    ensures { λ r. ⌜ met r (now (table .exit)) ≡ within k (now (table .entry)) (slotMet own code time (entriesFrom n 0 (now (part .entry))) (blockOf k (now (table .entry)))) ⌝ }
+    requires { ⌜ (k < countIn books (length (now table))) × (entrySize * n ≤ length (now part)) ⌝ }
+    ensures { λ r. ⌜ landed r (now (table .exit)) ≡ within books k (now (table .entry)) (slotTurn books own code (walk time (entriesFrom n 0 (now (part .entry)))) (blockOf k (now (table .entry)))) ⌝ }
 {
-    let a = 64 * k;
-    let b = a + 64;
+    let a = BOOK_WORDS * k;
+    let b = a + BOOK_WORDS;
     in_words(&mut table[a..b], own, code, part, n, time)
 }
 
 // The table after n entries for a code: in the lowest slot with the code, else the lowest free one, else 17.
 fn placed(table: &mut [u64], code: u64, part: &[u8], n: usize, time: u64) -> u64
     requires { ⌜ entrySize * n ≤ length (now part) ⌝ }
-    ensures { λ r. ⌜ met r (now (table .exit)) ≡ placeMet (placeIn code (now (table .entry))) code time (entriesFrom n 0 (now (part .entry))) (now (table .entry)) ⌝ }
+    ensures { λ r. ⌜ landed r (now (table .exit)) ≡ placeTurn books (placeIn code (now (table .entry))) code (walk time (entriesFrom n 0 (now (part .entry)))) (now (table .entry)) ⌝ }
 {
-    let slot = slots::find(table, 64, code);
+    let slot = slots::find(table, MOST, BOOK_WORDS, code);
     match slot {
         Slot::Held(k) => in_slot(table, k, true, code, part, n, time),
         Slot::Free(k) => in_slot(table, k, false, code, part, n, time),
@@ -114,25 +121,32 @@ pub fn is_listed(m: &[u8]) -> bool
     requires { ⌜ length (now m) ≡ entriesAt + entrySize * noEntries (now m) ⌝ }
     ensures { λ r. ⌜ r ≡ listedBook (now (m .entry)) ⌝ }
 {
-    if is_code(wire::u32_in(m, 4)) {
-        let n = wire::u8_in(m, 11) as usize;
-        let part = &m[12..];
+    if is_code(wire::u32_in(m, ladder::CODE_AT)) {
+        let n = wire::u8_in(m, ladder::NO_ENTRIES_AT) as usize;
+        let part = &m[ladder::ENTRIES_AT..];
         return ladder::all_listed(part, n);
     }
     false
 }
 
+// Every slot of the table emptied; the words behind the slots stay.
+pub fn clear(table: &mut [u64])
+    ensures { λ _. ⌜ now (table .exit) ≡ clearedIn books (now (table .entry)) ⌝ }
+{
+    slots::clear(table, MOST, BOOK_WORDS);
+}
+
 // A book message of the right size on the table: 18, 17, 16 or 0, in that order; only with 0 is anything written.
 pub fn take(table: &mut [u64], m: &[u8], time: u64) -> u64
     requires { ⌜ length (now m) ≡ entriesAt + entrySize * noEntries (now m) ⌝ }
-    ensures { λ r. ⌜ met r (now (table .exit)) ≡ bookTurn time (now (m .entry)) (now (table .entry)) ⌝ }
+    ensures { λ r. ⌜ landed r (now (table .exit)) ≡ bookTurn time (now (m .entry)) (now (table .entry)) ⌝ }
 {
-    let n = wire::u8_in(m, 11) as usize;
+    let n = wire::u8_in(m, ladder::NO_ENTRIES_AT) as usize;
     if n == 0 {
         return 0;
     }
-    let code = wire::u32_in(m, 4);
-    let part = &m[12..];
+    let code = wire::u32_in(m, ladder::CODE_AT);
+    let part = &m[ladder::ENTRIES_AT..];
     placed(table, code, part, n, time)
 }
 
@@ -153,27 +167,27 @@ fn is_asked(code: u64, side: u64, rank: u64) -> bool
     ensures { λ r. ⌜ r ≡ (listedCode code && listedSide side && listedRank rank) ⌝ }
 {
     if is_code(code) {
-        if 1 < side {
+        if ladder::OFFER < side {
             return false;
         }
         if rank < 1 {
             return false;
         }
-        return rank <= 10;
+        return rank <= DEPTH as u64;
     }
     false
 }
 
 // A row of a side of n rows that begins at a word: 4 where there is no such row.
 fn row_of_side(words: &[u64], base: usize, n: u64, rank: u64) -> RowRead
-    requires { ⌜ (base + 30 ≤ length (now words)) × (1 ≤ rank) × (rank ≤ 10) × (rank ≤ n → rowOf (drop (base + 3 * (rank - 1)) (now words)) .price < word32) ⌝ }
+    requires { ⌜ (base + sideWidth ≤ length (now words)) × (1 ≤ rank) × (rank ≤ depth) × (rank ≤ n → rowOf (drop (base + rowWidth * (rank - 1)) (now words)) .price < word32) ⌝ }
     ensures { λ r. ⌜ r ≡ rowOfSide base n rank (now (words .entry)) ⌝ }
 {
     if n < rank {
         return no_row(4);
     }
     let place = (rank - 1) as usize;
-    let row = ladder::row_at(words, base + 3 * place);
+    let row = ladder::row_at(words, base + ladder::ROW_WORDS * place);
     let price = wire::price_of(row.price);
     RowRead {
         answer: 0,
@@ -185,25 +199,30 @@ fn row_of_side(words: &[u64], base: usize, n: u64, rank: u64) -> RowRead
 
 // A row of the book in a slot's words: 18 where the book is not sound.
 fn row_of_book(words: &[u64], side: u64, rank: u64) -> RowRead
-    requires { ⌜ (length (now words) ≡ 64) × (1 ≤ rank) × (rank ≤ 10) ⌝ }
+    requires { ⌜ (length (now words) ≡ bookWidth) × (1 ≤ rank) × (rank ≤ depth) ⌝ }
     ensures { λ r. ⌜ r ≡ rowOfBook side rank (now (words .entry)) ⌝ }
 {
     if ladder::is_sound(words) {
-        if side == 0 {
-            return row_of_side(words, 4, words[1], rank);
+        if side == ladder::BID {
+            return row_of_side(words, ladder::BIDS_AT, words[ladder::BID_COUNT_AT], rank);
         }
-        return row_of_side(words, 34, words[2], rank);
+        return row_of_side(
+            words,
+            ladder::OFFERS_AT,
+            words[ladder::OFFER_COUNT_AT],
+            rank,
+        );
     }
     no_row(18)
 }
 
 // A row of the book in slot k of the table.
 fn row_in_slot(table: &[u64], k: usize, side: u64, rank: u64) -> RowRead
-    requires { ⌜ (k < slotCount 64 (length (now table))) × (1 ≤ rank) × (rank ≤ 10) ⌝ }
+    requires { ⌜ (k < countIn books (length (now table))) × (1 ≤ rank) × (rank ≤ depth) ⌝ }
     ensures { λ r. ⌜ r ≡ rowOfBook side rank (blockOf k (now (table .entry))) ⌝ }
 {
-    let a = 64 * k;
-    let b = a + 64;
+    let a = BOOK_WORDS * k;
+    let b = a + BOOK_WORDS;
     row_of_book(&table[a..b], side, rank)
 }
 
@@ -212,7 +231,7 @@ pub fn read_row(table: &[u64], code: u64, side: u64, rank: u64) -> RowRead
     ensures { λ r. ⌜ r ≡ readRow code side rank (now (table .entry)) ⌝ }
 {
     if is_asked(code, side, rank) {
-        let slot = slots::find(table, 64, code);
+        let slot = slots::find(table, MOST, BOOK_WORDS, code);
         let Slot::Held(k) = slot else {
             return no_row(4);
         };

@@ -20,10 +20,9 @@ use Rattle.ground.proofs.Bools.{both, cond-same}
 use Rattle.ground.proofs.Choices.{noneUpto, first-skips}
 use Rattle.wire.proofs.Unit as the-unit
 use Rattle.wire.proofs.Fronts.{unit-fits, message-length}
-use Rattle.slots.specs.Slots as slots
-use Rattle.books.specs.Table.{unsound, noSlot, misfits, bookAnswer, booksAfter}
+use Rattle.slots.specs.Layout.{Landed, landed, clearedIn}
+use Rattle.books.specs.Table.{books, unsound, noSlot, misfits, bookAnswer, booksAfter}
 use Rattle.books.specs.Turns.{bookTurn}
-use Rattle.ladder.specs.Code.Loading.{Met, met}
 use Rattle.feed.specs.Messages.{kindOf, onMarket, market, book, wrongSize, statusOf, listed}
 use Rattle.feed.specs.Feeds.{deaf, inPhase, nextIs, internalIs, heardAt, wholeIs, freshIs}
 use Rattle.feed.specs.Events.{Tables, Event, Connect, Arrive, Cut, timeOf, News, Linked, Message, cutFrom, news, onMessage, newsSize, offered}
@@ -96,7 +95,7 @@ module _ (f : Feed) (t m : List ℕ) (n q i : ℕ) (k : Kind) (a : k ≡ kindOf 
     unfolding first tableTests onMessage ofBook passed onMarket
     no-tests = rw (← a, e)
 
-    pub session-cleared : (u : List ℕ) → c ≡ true → u ≡ slots.cleared 64 t
+    pub session-cleared : (u : List ℕ) → c ≡ true → u ≡ clearedIn books t
         → ((r j : ℕ) (x : Tables) → stateOf y (clearedIf (clears s m f) x) ≡ taken n (Message r j m) (stateOf f x)) → g ≡ answered 0 y
         → outOf g (lent u) ≡ onTables (stateOf f (lent t)) (Cut q i m n)
     unfolding onTables handed timeOf news number act usedOf offered
@@ -124,13 +123,13 @@ module _ (f : Feed) (t m : List ℕ) (n q i : ℕ) (k : Kind) (a : k ≡ kindOf 
     book-by h true z = rw (← a, e, h, eqb-true (bookAnswer n m t) 0 z)
     book-by h false z = rw (cond-same {A = ℕ} (leb (bookAnswer n m t) 2) 0)
 
-    pub book-met : (r : ℕ) (u : List ℕ) → d ≡ Book → met r u ≡ bookTurn n m t
+    pub book-met : (r : ℕ) (u : List ℕ) → d ≡ Book → landed r u ≡ bookTurn n m t
         → g ≡ answered r (cond (accepted r) (advanced n (counted (Market Other) i f)) (inPhase Lost (wholeIs false f)))
         → outOf g (lent u) ≡ onTables (stateOf f (lent t)) (Cut q i m n)
     unfolding onTables timeOf news
     book-met r u h w l =
-        let p : r ≡ bookAnswer n m t = ap (λ (x : Met). x .answer) w in
-        let v : u ≡ cond (eqb (bookAnswer n m t) 0) (booksAfter n m t) t = ap (λ (x : Met). x .words) w in
+        let p : r ≡ bookAnswer n m t = ap (λ (x : Landed). x .answer) w in
+        let v : u ≡ cond (eqb (bookAnswer n m t) 0) (booksAfter n m t) t = ap (λ (x : Landed). x .words) w in
         rw (l, p, v, book-accept, book-tests h) (book-by h (eqb (bookAnswer n m t) 0) refl)
 
     pub other-met : (y : Feed) → d ≡ Other → y ≡ advanced n (counted (Market Other) i f) → g ≡ answered 2 y

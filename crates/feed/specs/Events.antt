@@ -6,8 +6,8 @@ use lib.ListN.{length}
 use Rattle.wire.specs.Units.{headerSize, unitOf, messageIn}
 use Rattle.wire.specs.declared.Unit.{Unit}
 use Rattle.wire.specs.declared.Unit.the-variants as unit
-use Rattle.slots.specs.Slots.{cleared}
-use Rattle.ladder.specs.Words.{bookWidth}
+use Rattle.slots.specs.Layout.{clearedIn}
+use Rattle.books.specs.Table.{books}
 use Rattle.feed.specs.declared.Feed.{Feed}
 use Rattle.feed.specs.declared.Link.{Link}
 
@@ -17,7 +17,7 @@ pub record Tables : Type 0 where
 
 -- "Clearing zeroes all slots"
 abbrev pub clearedTables : Tables → Tables
-clearedTables x = record { books = cleared bookWidth (x .books) }
+clearedTables x = record { books = clearedIn books (x .books) }
 
 -- a feed, and the tables that are lent with it
 pub record State : Type 0 where

@@ -6,9 +6,11 @@ use lib.ListN.{length, take, drop, replicate}
 use lib.IntN.{ℤ, subℕ}
 use lib.Dec.{eqb}
 use Rattle.wire.specs.Number.{bias}
-use Rattle.slots.specs.Slots.{slotsOf, codeOf}
+use Rattle.slots.specs.Slots.{codeOf}
+use Rattle.slots.specs.Layout.{slotsIn}
 use Rattle.ladder.specs.Message.{bidSide, offerSide}
 use Rattle.ladder.specs.Words.{bookWidth, bookOf}
+use Rattle.books.specs.Table.{books}
 use Rattle.ladder.specs.declared.Row.{Row}
 use Rattle.feed.specs.Feeds.{newFeed}
 use Rattle.feed.specs.Events.{State, Arrive, Connect}
@@ -77,7 +79,7 @@ pub record Printed : Type 0 where
 
 abbrev pub printed : List ℕ → Printed
 printed s = record {
-  rows = lines (slotsOf bookWidth (programRun s .state .tables .books));
+  rows = lines (slotsIn books (programRun s .state .tables .books));
   answer = programRun s .answer;
   units = programRun s .units;
 }

@@ -39,7 +39,7 @@ impl Feed {
         match kind {
             Kind::Session(session) => {
                 if self.is_clearing(session, message) {
-                    slots::clear(table, 64);
+                    books::clear(table);
                     return self.done(session, message, time).kept(0);
                 }
                 self.done(session, message, time).kept(0)

@@ -1,10 +1,13 @@
 -- Laws of the lists of specs/Choice. Assumes nothing.
-use Prim.Native.Nat.{ℕ}
+use Prim.Native.Nat.{ℕ, zero, suc, _<_}
+use native.Mathlib.Nat.{le-of-suc-le-suc, not-suc-le-zero}
 use mathlib.Core.Path.{_≡_, refl, sym, ap, subst}
 use mathlib.Core.Bool.{Bool, true, false, cond, not, _&&_, _||_}
 use mathlib.Core.List.{List, [], _∷_, _++_}
 use lib.Dec.{T, eqb, eqb→eq}
+use lib.ListN.{length, getD, set}
 use Rattle.ground.specs.Choice.{oneOf, first, all}
+use Rattle.ground.proofs.Bools.{both, join}
 
 -- tests in order, each of which has the property beside it or does not pass: what is picked has the property
 pub first-may : {A : Type 0} (g : A → Bool) (ts : List (Bool × A)) (other : A)
@@ -106,3 +109,20 @@ first-none {A} (t ∷ ts) other h = go (t .0) h (first-none ts other)
     go : (b : Bool) → T (not b && all (λ t. not (t .0)) ts) → (T (all (λ t. not (t .0)) ts) → first ts other ≡ other) → cond b (t .1) (first ts other) ≡ other
     go true h rest = absurd h
     go false h rest = rest h
+
+module _ {A : Type 0} (f : A → Bool) where
+  -- a test that passes at every element passes at the i-th
+  pub all-at : (l : List A) (i : ℕ) (d : A) → all f l ≡ true → i < length l → f (getD l i d) ≡ true
+  unfolding all
+  all-at [] i d e h = absurd (not-suc-le-zero h)
+  all-at (x ∷ l) zero d e h = both (f x) (all f l) e .0
+  all-at (x ∷ l) (suc i) d e h = all-at l i d (both (f x) (all f l) e .1) (le-of-suc-le-suc h)
+
+  -- and where one is replaced by one at which it passes too
+  pub all-set : (k : ℕ) (r : A) (l : List A) → f r ≡ true → all f l ≡ true → all f (set l k r) ≡ true
+  unfolding all
+  all-set k r [] p e = refl
+  all-set zero r (a ∷ l) p e = join (f r) (all f l) p (both (f a) (all f l) e .1)
+  all-set (suc k) r (a ∷ l) p e =
+      let t = both (f a) (all f l) e in
+      join (f a) (all f (set l k r)) (t .0) (all-set k r l p (t .1))

@@ -11,6 +11,7 @@ use borrow.Author.Tests.{lt-ltb, le-leb, leb-true, eqb-true}
 use Rattle.ground.specs.Choice.{pick, all}
 use Rattle.wire.specs.Number.{field, biased, bytesOnly, word32}
 use Rattle.ground.proofs.Bools.{both, join, split}
+use Rattle.ground.proofs.Choices.{all-set}
 use Rattle.wire.proofs.Fields.{field-below}
 use Rattle.ladder.specs.Message.{depth, entrySize, entriesAt, entryAt, entriesFrom, entries, listedRank}
 use Rattle.ladder.specs.Sides.{better, noRow, rowAt, has, newFits, newRows, changeFits, changeRows, deleteFits, deleteRows, fits, rowsAfter, onSide}
@@ -22,7 +23,7 @@ use Rattle.ladder.specs.declared.Row.{Row}
 use Rattle.ladder.specs.declared.Entry.{Entry}
 use Rattle.ladder.proofs.Shift.{ins, length-del}
 use Rattle.ladder.proofs.Fits.{fit-rank}
-use Rattle.ladder.proofs.Orders.{best-take, best-ins, best-set, best-del, all-take, all-ins, all-set, all-del}
+use Rattle.ladder.proofs.Orders.{best-take, best-ins, best-set, best-del, all-take, all-ins, all-del}
 
 -- a side of no rows is sound
 none-sound : (w : Way) → SoundRows w []

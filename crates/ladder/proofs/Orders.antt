@@ -157,15 +157,6 @@ module _ {A : Type 0} (f : A → Bool) where
   all-drop (suc n) [] e = refl
   all-drop (suc n) (a ∷ l) e = all-drop n l (both (f a) (all f l) e .1)
 
-  -- where one is replaced
-  pub all-set : (k : ℕ) (r : A) (l : List A) → f r ≡ true → all f l ≡ true → all f (set l k r) ≡ true
-  unfolding all
-  all-set k r [] p e = refl
-  all-set zero r (a ∷ l) p e = join (f r) (all f l) p (both (f a) (all f l) e .1)
-  all-set (suc k) r (a ∷ l) p e =
-      let t = both (f a) (all f l) e in
-      join (f a) (all f (set l k r)) (t .0) (all-set k r l p (t .1))
-
   -- where one is put in
   pub all-ins : (k : ℕ) (r : A) (l : List A) → f r ≡ true → all f l ≡ true → all f (ins k r l) ≡ true
   unfolding all

@@ -1,5 +1,5 @@
 -- What a sound book's words tell of its sides (specs/Words). Assumes nothing.
-use Prim.Native.Nat.{ℕ, zero, suc, _+_, _-_, _≤_, _<_}
+use Prim.Native.Nat.{ℕ, suc, _+_, _-_, _≤_, _<_}
 use mathlib.Core.Path.{_≡_, refl, ap, sym, _∙_}
 use mathlib.Core.Bool.{Bool, true, _&&_}
 use mathlib.Core.List.{List, [], _∷_, _++_}
@@ -12,6 +12,7 @@ use borrow.Author.Tests.{ltb-true, leb-true, eqb-true}
 use Rattle.ground.specs.Choice.{all}
 use Rattle.wire.specs.Number.{word32}
 use Rattle.ground.proofs.Bools.{both, join}
+use Rattle.ground.proofs.Choices.{all-at}
 use Rattle.ladder.specs.Sides.{noRow}
 use Rattle.ladder.specs.Words.{bidCount, offerCount, spareWord, bidsAt, offersAt, rowsFrom, bookOf, noRows, pad, bestFirst, bounded, zeroRow, soundSide, sound, SoundRows, SoundBook}
 use Rattle.ladder.specs.Code.Arrays.{Padded, Sides}
@@ -22,13 +23,6 @@ use Rattle.ladder.specs.declared.Row.{Row}
 use Rattle.ladder.proofs.Pads.{length-pad, pad-behind}
 use Rattle.ladder.proofs.Loads.{rows-ten}
 use Rattle.ladder.specs.Message.{depth}
-
--- a test that passes at every element passes at the i-th
-pub all-at : {A : Type 0} (f : A → Bool) (l : List A) (i : ℕ) (d : A) → all f l ≡ true → i < length l → f (getD l i d) ≡ true
-unfolding all
-all-at f [] i d e h = absurd (omega arith)
-all-at f (x ∷ l) zero d e h = both (f x) (all f l) e .0
-all-at f (x ∷ l) (suc i) d e h = all-at f l i d (both (f x) (all f l) e .1) (omega arith)
 
 -- a test that passes at each element passes at every one
 pub all-of : {A : Type 0} (f : A → Bool) (l : List A) (d : A) → ((i : ℕ) → i < length l → f (getD l i d) ≡ true) → all f l ≡ true

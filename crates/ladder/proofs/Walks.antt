@@ -13,11 +13,12 @@ use borrow.Author.Tests.{le-leb, lt-leb, eq-eqb, ne-eqb}
 use Rattle.ground.specs.Choice.{oneOf, pick, all}
 use Rattle.wire.specs.Number.{field, biased}
 use Rattle.ground.proofs.Bools.{cond-same, split}
+use Rattle.slots.specs.Layout.{landed}
 use Rattle.ladder.specs.Message.{depth, entrySize, entryOf, entryAt, entriesFrom, listedEntry, listedSide, listedRank}
 use Rattle.ladder.specs.Sides.{noRow, newRows, changeRows, deleteRows, fits, rowsAfter, onSide}
 use Rattle.ladder.specs.Walk.{Book, emptyBook, withBids, withOffers, onBook, walk}
 use Rattle.ladder.specs.Code.Arrays.{Side, live, Padded, sideAt, asBook, Sides, emptyRows, emptyCounts, wayOf, fitsAt, tenAfter, countAfter}
-use Rattle.ladder.specs.Code.Loading.{met, settled}
+use Rattle.ladder.specs.Code.Loading.{settled}
 use Rattle.ladder.specs.Words.{bookWidth, noRows, wordsOf}
 use Rattle.ladder.specs.declared.Way.{Way}
 use Rattle.ladder.specs.declared.Way.the-variants.{Bid, Offer}
@@ -224,7 +225,7 @@ walk-starts time s n w rows counts p r c = record {
 }
 
 pub walk-ends : (time : ℕ) (s : List ℕ) (n c : ℕ) (w₀ : List ℕ) (rows₀ : List (List Row)) (counts₀ w u : List ℕ) (rows : List (List Row)) (counts : List ℕ) (i : ℕ)
-    → Walking time s n w₀ rows₀ counts₀ w rows counts i → n ≤ i → u ≡ wordsOf c (asBook rows counts) → met 0 u ≡ settled c (walk time (entriesFrom n 0 s) (asBook rows₀ counts₀)) w₀
+    → Walking time s n w₀ rows₀ counts₀ w rows counts i → n ≤ i → u ≡ wordsOf c (asBook rows counts) → landed 0 u ≡ settled c (walk time (entriesFrom n 0 s) (asBook rows₀ counts₀)) w₀
 unfolding walk
 walk-ends time s n c w₀ rows₀ counts₀ w u rows counts i p h e =
     let f : walk time (entriesFrom n 0 s) (asBook rows₀ counts₀) ≡ some (asBook rows counts) = sym (p .same) ∙ ap (λ (es : List Entry). walk time es (asBook rows counts)) (rest-none n i s h) in
@@ -248,9 +249,9 @@ module _ (time : ℕ) (s : List ℕ) (n : ℕ) (w₀ : List ℕ) (rows₀ : List
   unfolding bind
   goes rows′ counts′ two sides f = record { upto = omega arith; room = p .room; long = p .long; stays = p .stays; two = two; sides = sides; same = rw f at one-more }
 
-  stops : (c : ℕ) → onBook time e (asBook rows counts) ≡ none → met 16 w ≡ settled c (walk time (entriesFrom n 0 s) (asBook rows₀ counts₀)) w₀
+  stops : (c : ℕ) → onBook time e (asBook rows counts) ≡ none → landed 16 w ≡ settled c (walk time (entriesFrom n 0 s) (asBook rows₀ counts₀)) w₀
   unfolding bind
-  stops c f = ap (met 16) (p .stays) ∙ ap (λ (r : Option Book). settled c r w₀) (rw f at one-more)
+  stops c f = ap (landed 16) (p .stays) ∙ ap (λ (r : Option Book). settled c r w₀) (rw f at one-more)
 
   pub walk-clear : (rows′ : List (List Row)) → e .action ≡ 74 → rows′ ≡ emptyRows → Walking time s n w₀ rows₀ counts₀ w rows′ emptyCounts (i + 1)
   walk-clear rows′ a r = rw r (goes emptyRows emptyCounts (refl, refl) empty-sides (on-clear time e (asBook rows counts) a))
@@ -275,19 +276,19 @@ module _ (time : ℕ) (s : List ℕ) (n : ℕ) (w₀ : List ℕ) (rows₀ : List
   pub count-one : e .side ≤ 1 → fits (wayOf (e .side)) e (live (sideAt (e .side) rows counts)) ≡ true → (eqb (e .action) 0 || leb 1 (getD counts (e .side) 0)) ≡ true
   count-one d f = has-one (wayOf (e .side)) (sideAt (e .side) rows counts) e (side-padded rows counts (e .side) (p .sides) d) f
 
-  pub stop-zero : (c : ℕ) → (e .action ≡ 74 → ⊥) → e .level < 1 → met 16 w ≡ settled c (walk time (entriesFrom n 0 s) (asBook rows₀ counts₀)) w₀
+  pub stop-zero : (c : ℕ) → (e .action ≡ 74 → ⊥) → e .level < 1 → landed 16 w ≡ settled c (walk time (entriesFrom n 0 s) (asBook rows₀ counts₀)) w₀
   unfolding listedRank
   stop-zero c a l = stops c (no-rank time e (asBook rows counts) a (rw (lt-leb 1 (e .level) l)))
 
-  pub stop-eleven : (c : ℕ) → (e .action ≡ 74 → ⊥) → 1 ≤ e .level → depth < e .level → met 16 w ≡ settled c (walk time (entriesFrom n 0 s) (asBook rows₀ counts₀)) w₀
+  pub stop-eleven : (c : ℕ) → (e .action ≡ 74 → ⊥) → 1 ≤ e .level → depth < e .level → landed 16 w ≡ settled c (walk time (entriesFrom n 0 s) (asBook rows₀ counts₀)) w₀
   unfolding listedRank
   stop-eleven c a l u = stops c (no-rank time e (asBook rows counts) a (rw (le-leb 1 (e .level) l, lt-leb (e .level) depth u)))
 
-  pub stop-side : (c : ℕ) → (e .action ≡ 74 → ⊥) → 1 < e .side → met 16 w ≡ settled c (walk time (entriesFrom n 0 s) (asBook rows₀ counts₀)) w₀
+  pub stop-side : (c : ℕ) → (e .action ≡ 74 → ⊥) → 1 < e .side → landed 16 w ≡ settled c (walk time (entriesFrom n 0 s) (asBook rows₀ counts₀)) w₀
   stop-side c a d = stops c (no-side time e (asBook rows counts) a d)
 
   pub stop-misfit : (c : ℕ) → (e .action ≡ 74 → ⊥) → e .side ≤ 1 → fits (wayOf (e .side)) e (live (sideAt (e .side) rows counts)) ≡ false
-      → met 16 w ≡ settled c (walk time (entriesFrom n 0 s) (asBook rows₀ counts₀)) w₀
+      → landed 16 w ≡ settled c (walk time (entriesFrom n 0 s) (asBook rows₀ counts₀)) w₀
   stop-misfit c a d f = stops c (not-side rows counts (p .two) time e (e .side) a refl d f)
 
 pub ruleset walking = (needs, walk-starts, walk-ends, walk-clear, walk-side, count-few, count-one, stop-zero, stop-eleven, stop-side, stop-misfit, fits-told)

@@ -15,11 +15,12 @@ use super::words::write_book;
 ghost use mathlib.Core.Path.{_≡_};
 ghost use Prim.Native.Nat.{_-_, _*_, _≤_};
 ghost use lib.ListN.{length};
+ghost use Rattle.slots.specs.Layout.{landed};
 ghost use Rattle.ladder.specs.Message.{entrySize, entriesFrom};
 ghost use Rattle.ladder.specs.Walk.{walk as walkBook};
 ghost use Rattle.ladder.specs.Code.Arrays.{Sides, wayOf, asBook};
 ghost use Rattle.ladder.specs.Words.{bookWidth};
-ghost use Rattle.ladder.specs.Code.Loading.{met, settled};
+ghost use Rattle.ladder.specs.Code.Loading.{settled};
 
 // The place of the row above a rank; of rank 1, which has none, place 0.
 fn place_above(level: usize) -> usize
@@ -50,7 +51,7 @@ pub fn walk(
     time: u64,
 ) -> u64
     requires { ⌜ (length (now words) ≡ bookWidth) × Sides rows counts × (entrySize * n ≤ length (now part)) ⌝ }
-    ensures { λ r. ⌜ met r (now (words .exit)) ≡ settled code (walkBook time (entriesFrom n 0 (now (part .entry))) (asBook rows counts)) (now (words .entry)) ⌝ }
+    ensures { λ r. ⌜ landed r (now (words .exit)) ≡ settled code (walkBook time (entriesFrom n 0 (now (part .entry))) (asBook rows counts)) (now (words .entry)) ⌝ }
 {
     let mut i = 0;
     'walk: loop {

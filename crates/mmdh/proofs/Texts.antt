@@ -13,7 +13,9 @@ use borrow.Author.Needs.{needs}
 use borrow.Author.Tests.{lt-ltb, le-ltb, eq-eqb, ne-eqb}
 use Rattle.io.specs.Digits.{digits, Fewest}
 use Rattle.wire.specs.Number.{bias}
-use Rattle.slots.specs.Slots.{slotsOf, codeOf}
+use Rattle.slots.specs.Slots.{codeOf}
+use Rattle.slots.specs.Layout.{slotsIn}
+use Rattle.books.specs.Table.{books}
 use Rattle.slots.proofs.Blocks.{block-at, length-blocks}
 use Rattle.ladder.specs.Sides.{noRow}
 use Rattle.ladder.specs.Words.{rowOf, rowsFrom, bookWidth, sideWidth, offersAt, bidsAt}
@@ -241,7 +243,7 @@ pub record Booking (table old : List ℕ) (at k end : ℕ) (new : List ℕ) : Ty
   pub long : length new ≡ length old
   pub whole : length table ≡ tableWords
   pub room : at + booksRoom ≤ length old
-  pub so-far : Put (linesText (lines (take k (slotsOf bookWidth table)))) (bookRoom * k) at old new end
+  pub so-far : Put (linesText (lines (take k (slotsIn books table)))) (bookRoom * k) at old new end
 
 pub books-start : (table old : List ℕ) (at : ℕ) → length table ≡ tableWords → at + booksRoom ≤ length old → Booking table old at 0 at old
 unfolding lines linesText
@@ -251,7 +253,7 @@ pub books-go : (table old new newer : List ℕ) (at k end r : ℕ) → Booking t
     → Put (linesText (lines (take (bookWidth * k + bookWidth - bookWidth * k) (drop (bookWidth * k) table) ∷ []))) bookRoom end new newer r → Booking table old at (k + 1) r newer
 books-go table old new newer at k end r c h g p =
     let whole : length table ≡ tableWords = c .whole in
-    let blocks′ : List (List ℕ) = slotsOf bookWidth table in
+    let blocks′ : List (List ℕ) = slotsIn books table in
     let many : length blocks′ ≡ slots = rw whole (length-blocks bookWidth slots table) in
     let wide : bookWidth * k + bookWidth - bookWidth * k ≡ bookWidth = omega arith in
     let here : getD blocks′ k [] ≡ take bookWidth (drop (bookWidth * k) table) = rw whole (block-at bookWidth slots k table h) in
@@ -265,11 +267,11 @@ books-go table old new newer at k end r c h g p =
       so-far = same-text _ _ old newer (bookRoom * k + bookRoom) (bookRoom * (k + 1)) at r (behind _ _ old new newer (bookRoom * k) bookRoom at end r (c .so-far) (rw wide at p)) same (omega arith);
     }
 
-pub books-end : (table old new : List ℕ) (at k end : ℕ) → Booking table old at k end new → slots ≤ k → Put (linesText (lines (slotsOf bookWidth table))) booksRoom at old new end
+pub books-end : (table old new : List ℕ) (at k end : ℕ) → Booking table old at k end new → slots ≤ k → Put (linesText (lines (slotsIn books table))) booksRoom at old new end
 books-end table old new at k end c h =
     let upto : k ≤ slots = c .upto in
     let whole : length table ≡ tableWords = c .whole in
-    let blocks′ : List (List ℕ) = slotsOf bookWidth table in
+    let blocks′ : List (List ℕ) = slotsIn books table in
     let many : length blocks′ ≡ slots = rw whole (length-blocks bookWidth slots table) in
     same-text _ _ old new (bookRoom * k) booksRoom at end (c .so-far) (ap (λ (l : List (List ℕ)). linesText (lines l)) (take-all k blocks′ (omega arith))) (omega arith)
 
@@ -281,7 +283,7 @@ end-put answer units at a b c r o p q s t h₁ h₂ h₃ h₄ =
     let p₃ = behind _ _ o q s _ _ at b c p₂ h₃ in
     same-text _ _ o t endRoom endRoom at r (behind _ _ o s t _ _ at c r p₃ h₄) (simp append-assoc) (omega arith)
 
-pub all-put : (table : List ℕ) (answer units a b r : ℕ) (o p q s : List ℕ) → Put headText headRoom 0 o p a → Put (linesText (lines (slotsOf bookWidth table))) booksRoom a p q b
+pub all-put : (table : List ℕ) (answer units a b r : ℕ) (o p q s : List ℕ) → Put headText headRoom 0 o p a → Put (linesText (lines (slotsIn books table))) booksRoom a p q b
     → Put (endText answer units) endRoom b q s r → Put (text (shown table answer units)) textRoom 0 o s r
 all-put table answer units a b r o p q s h₁ h₂ h₃ = behind _ _ o q s _ _ 0 b r (behind _ _ o p q _ _ 0 a b h₁ h₂) h₃
 

@@ -6,9 +6,11 @@ ghost use mathlib.Core.Bool.{false, cond};
 ghost use mathlib.Core.List.{[], _∷_, _++_};
 ghost use lib.IntN.{subℕ};
 ghost use Rattle.wire.specs.Number.{bias};
-ghost use Rattle.slots.specs.Slots.{slotsOf, codeOf};
+ghost use Rattle.slots.specs.Slots.{codeOf};
+ghost use Rattle.slots.specs.Layout.{slotsIn};
 ghost use Rattle.ladder.specs.Message.{depth};
 ghost use Rattle.ladder.specs.Words.{bookWidth, rowsFrom, sideWidth};
+ghost use Rattle.books.specs.Table.{books};
 ghost use Rattle.feed.specs.Steps.{accepted};
 ghost use Rattle.feed.specs.Program.{bufferSize, connection, sideLines, lines, tableWords};
 ghost use Rattle.mmdh.specs.Code.Runs.{Within, Called, Refilled, Turned, Drained, Wrote};
@@ -305,7 +307,7 @@ fn put_book(out: &mut [u8], at: usize, words: &[u64]) -> usize
 // Puts the lines of all books, in slot order.
 fn put_books(out: &mut [u8], at: usize, table: &[u64]) -> usize
     requires { ⌜ (length (now table) ≡ tableWords) × (at + booksRoom ≤ length (now out)) ⌝ }
-    ensures { λ r. ⌜ Put (linesText (lines (slotsOf bookWidth (now (table .entry))))) booksRoom at (now (out .entry)) (now (out .exit)) r ⌝ }
+    ensures { λ r. ⌜ Put (linesText (lines (slotsIn books (now (table .entry))))) booksRoom at (now (out .entry)) (now (out .exit)) r ⌝ }
 {
     let mut end = at;
     let mut k = 0;

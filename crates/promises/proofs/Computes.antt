@@ -4,7 +4,9 @@ use mathlib.Core.Option.{bind}
 use Rattle.ground.specs.Choice as ground-Choice
 use Rattle.wire.specs.Number as wire-Number
 use Rattle.wire.specs.Units as wire-Units
+use Rattle.slots.specs.Layout as slots-Layout
 use Rattle.slots.specs.Slots as slots-Slots
+use Rattle.slots.specs.Turns as slots-Turns
 use Rattle.ladder.specs.Code.Arrays as ladder-Code-Arrays
 use Rattle.ladder.specs.Code.Loading as ladder-Code-Loading
 use Rattle.ladder.specs.Message as ladder-Message
@@ -13,7 +15,6 @@ use Rattle.ladder.specs.Walk as ladder-Walk
 use Rattle.ladder.specs.Words as ladder-Words
 use Rattle.books.specs.Reading as books-Reading
 use Rattle.books.specs.Table as books-Table
-use Rattle.books.specs.Turns as books-Turns
 use Rattle.feed.specs.Answers as feed-Answers
 use Rattle.feed.specs.Code.Judging as feed-Code-Judging
 use Rattle.feed.specs.Events as feed-Events
@@ -54,9 +55,17 @@ unfoldable wire-units : ℕ
 unfolding wire-Units.unitOf
 wire-units = 0
 
+unfoldable slots-layout : ℕ
+unfolding slots-Layout.noneFree slots-Layout.misfit slots-Layout.orAsItWas slots-Layout.unsoundAt slots-Layout.valueAt slots-Layout.written slots-Layout.answer slots-Layout.stepped slots-Layout.withCode slots-Layout.turns slots-Layout.valueAfter slots-Layout.valuesAfter
+slots-layout = 0
+
 unfoldable slots-slots : ℕ
 unfolding slots-Slots.blocks slots-Slots.lowest slots-Slots.place slots-Slots.flat slots-Slots.cleared
 slots-slots = 0
+
+unfoldable slots-turns : ℕ
+unfolding slots-Turns.slotTurn slots-Turns.placeTurn
+slots-turns = 0
 
 unfoldable ladder-code-arrays : ℕ
 unfolding ladder-Code-Arrays.fitsAt ladder-Code-Arrays.tenAfter ladder-Code-Arrays.countAfter
@@ -87,12 +96,8 @@ unfolding books-Reading.noBook books-Reading.readAnswer books-Reading.readRow bo
 books-reading = 0
 
 unfoldable books-table : ℕ
-unfolding books-Table.unsoundAt books-Table.noneFree books-Table.bookAt books-Table.misfit books-Table.unsound books-Table.noSlot books-Table.misfits books-Table.bookAnswer books-Table.written books-Table.booksAfter
+unfolding books-Table.unsound books-Table.noSlot books-Table.misfits books-Table.bookAnswer books-Table.booksAfter
 books-table = 0
-
-unfoldable books-turns : ℕ
-unfolding books-Turns.slotMet books-Turns.placeMet
-books-turns = 0
 
 unfoldable feed-answers : ℕ
 unfolding feed-Answers.number feed-Answers.arrives feed-Answers.lacksNeed feed-Answers.isMore feed-Answers.isNext feed-Answers.allowed feed-Answers.seen feed-Answers.ofBook feed-Answers.passed feed-Answers.lineTests feed-Answers.tableTests feed-Answers.tests
@@ -151,7 +156,7 @@ unfolding promises-Entries.makes promises-Entries.not promises-Entries.bids prom
 promises-entries = 0
 
 unfoldable promises-goodmorning : ℕ
-unfolding promises-GoodMorning.on promises-GoodMorning.withCode promises-GoodMorning.due promises-GoodMorning.again promises-GoodMorning.fits promises-GoodMorning.good promises-GoodMorning.fairNews promises-GoodMorning.fair promises-GoodMorning.afterLogon promises-GoodMorning.told promises-GoodMorning.says promises-GoodMorning.saidNews promises-GoodMorning.talk promises-GoodMorning.fairly
+unfolding promises-GoodMorning.on promises-GoodMorning.due promises-GoodMorning.again promises-GoodMorning.fits promises-GoodMorning.good promises-GoodMorning.fairNews promises-GoodMorning.fair promises-GoodMorning.afterLogon promises-GoodMorning.told promises-GoodMorning.says promises-GoodMorning.saidNews promises-GoodMorning.talk promises-GoodMorning.fairly
 promises-goodmorning = 0
 
 unfoldable promises-leaves : ℕ
@@ -179,7 +184,7 @@ unfolding promises-Refusals.answersTo promises-Refusals.feedRefused
 promises-refusals = 0
 
 unfoldable promises-runs : ℕ
-unfolding promises-Runs.after promises-Runs.run promises-Runs.trace promises-Runs.noteStatus promises-Runs.noteTaken promises-Runs.noteNews promises-Runs.note promises-Runs.recall promises-Runs.green promises-Runs.perform promises-Runs.replay promises-Runs.settled promises-Runs.performOn promises-Runs.replayOn
+unfolding promises-Runs.after promises-Runs.run promises-Runs.trace promises-Runs.noteStatus promises-Runs.noteTaken promises-Runs.noteNews promises-Runs.note promises-Runs.recall promises-Runs.green promises-Runs.perform promises-Runs.replay promises-Runs.performOn promises-Runs.replayOn
 promises-runs = 0
 
 unfoldable promises-section6 : ℕ
@@ -203,5 +208,5 @@ unfolding promises-Traps.traps promises-Traps.mornings promises-Traps.sameLines 
 promises-traps = 0
 
 unfoldable pub computes : ℕ
-unfolding bind ground-choice wire-number wire-units slots-slots ladder-code-arrays ladder-code-loading ladder-message ladder-sides ladder-walk ladder-words books-reading books-table books-turns feed-answers feed-code-judging feed-events feed-feeds feed-messages feed-program feed-steps promises-answering promises-build promises-checks promises-decisions promises-demands promises-desk promises-entries promises-goodmorning promises-leaves promises-ledger promises-mornings promises-phases promises-pieces promises-refusals promises-runs promises-section6 promises-sizes promises-statuses promises-tables promises-traps
+unfolding bind ground-choice wire-number wire-units slots-layout slots-slots slots-turns ladder-code-arrays ladder-code-loading ladder-message ladder-sides ladder-walk ladder-words books-reading books-table feed-answers feed-code-judging feed-events feed-feeds feed-messages feed-program feed-steps promises-answering promises-build promises-checks promises-decisions promises-demands promises-desk promises-entries promises-goodmorning promises-leaves promises-ledger promises-mornings promises-phases promises-pieces promises-refusals promises-runs promises-section6 promises-sizes promises-statuses promises-tables promises-traps
 computes = 0

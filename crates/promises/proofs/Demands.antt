@@ -15,7 +15,7 @@ use Rattle.wire.specs.declared.Unit.{Unit}
 use Rattle.wire.specs.declared.Unit.the-variants as unit
 use Rattle.wire.proofs.Fronts.{unit-fits, unit-stays}
 use Rattle.ground.proofs.Choices.{first-may, first-skips}
-use Rattle.books.specs.Table.{unsound, noSlot, misfits, booksAfter}
+use Rattle.books.specs.Table.{bookIn, unsound, noSlot, misfits, booksAfter}
 use Rattle.books.proofs.Frames.{books-own, books-slots, books-other, books-length, books-tail, book-sound-in}
 use Rattle.ladder.proofs.Orders.{price-once}
 use Rattle.ladder.specs.Walk.{Book}
@@ -173,7 +173,7 @@ sound limit n es h =
 pub once : D.Once
 once limit n es h c =
     let b = sound limit n es h .1 c in
-    let book : Book = D.bookIn c (run (start limit n) es .tables .books) in (
+    let book : Book = bookIn c (run (start limit n) es .tables .books) in (
       λ i j ne x y. price-once Bid (book .bids) i j (b .bids .best) x y ne,
       λ i j ne x y. price-once Offer (book .offers) i j (b .offers .best) x y ne,
     )

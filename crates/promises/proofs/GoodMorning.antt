@@ -9,10 +9,11 @@ use lib.Dec.{T, ltb, leb, eqb}
 use borrow.Author.Tests.{not-true, eqb-true, leb-true, le-leb, le-ltb}
 use Rattle.ground.specs.Choice.{oneOf, pick, first, all}
 use Rattle.ground.proofs.Bools.{both, join, no-second}
-use Rattle.slots.specs.Slots.{slotCount, cleared as clearedWords}
+use Rattle.slots.specs.Layout.{countIn, clearedIn, withCode}
 use Rattle.ladder.specs.Message.{securityCode, listedCode, listedEntry, listedBook, entries}
 use Rattle.ladder.specs.Walk.{emptyBook, bookAfter}
-use Rattle.books.specs.Table.{placeIn, noneFree, bookMet, misfit, hasEntries, noSlot, misfits, unsound, booksAfter}
+use Rattle.books.specs.Table.{books, placeIn, noneFree, bookIn, bookStep, misfit, hasEntries, noSlot, misfits, unsound, booksAfter}
+use Rattle.books.proofs.Frames.{Filled, none-filled, room, books-filled}
 use Rattle.feed.specs.Messages.{kind, onMarket, market, book, wrongSize, listed, statusOf, logonStatus, lastInternal}
 use Rattle.feed.specs.Feeds.{is, deaf, inPhase, internalIs, colour, badgeNo, badge, badgeOf, listedLimit}
 use Rattle.feed.specs.Events.{Tables, State, Event, Connect, News, Linked, More, Heartbeat, Message, news, timeOf, onMessage}
@@ -33,11 +34,11 @@ use Rattle.feed.specs.declared.Status.the-variants.{Opens, Refills, Stays, Clos
 use Rattle.feed.specs.declared.Feed.{Feed}
 use Rattle.feed.specs.declared.Link.the-variants.{Fresh}
 use Rattle.promises.specs.Runs.{start, after, run, trace, Deed, Took, History, noHistory, noteHeard, noteOver, noteNews, noteStatus, noteTaken, note, recall, history, replayOn}
-use Rattle.promises.specs.Demands.{Bytes, handsBytes, bookIn, letsIn}
+use Rattle.promises.specs.Demands.{Bytes, handsBytes, letsIn}
 use Rattle.promises.specs.Refusals.{ending}
 use Rattle.promises.specs.GoodMorning as G
 use Rattle.promises.specs.Refusals.{ending}
-use Rattle.promises.specs.GoodMorning.{Stage, NeedsKey, NeedsLogon, Fills, Open, stageNo, on, Talk, begins, toStage, lastIs, tells, spoken, withCode, due, again, fits, good, fairNews, fair, afterLogon, told, says, saidNews, talk, fairly}
+use Rattle.promises.specs.GoodMorning.{Stage, NeedsKey, NeedsLogon, Fills, Open, stageNo, on, Talk, begins, toStage, lastIs, tells, spoken, due, again, fits, good, fairNews, fair, afterLogon, told, says, saidNews, talk, fairly}
 use Rattle.promises.proofs.Steps.{Any, any, noted as no-note, on-step, on-run}
 use Rattle.promises.proofs.Badges as B
 use Rattle.promises.proofs.Badges.{new-limit, counted-phase}
@@ -46,7 +47,6 @@ use Rattle.promises.proofs.Soundness as S
 use Rattle.promises.proofs.Soundness.{OfBytes, bytes-news}
 use Rattle.promises.proofs.Morning.{sound-row, run-append, recall-append}
 use Rattle.promises.proofs.Ledgers.{does-next, counted-next}
-use Rattle.promises.proofs.Codes.{Filled, none-filled, room, books-filled}
 
 -- the phase of a stage
 abbrev phaseFor : Stage → Phase
@@ -187,18 +187,18 @@ Fitting time m t w = (noSlot m t ≡ false) × (misfits time m t ≡ false) × F
 
 module _ (time : ℕ) (m t : List ℕ) (w : Talk) (nz : securityCode m ≡ 0 → ⊥) (filled : Filled t (w .codes))
     (same : bookIn (securityCode m) t ≡ replayOn (securityCode m) (w .deeds) emptyBook) where
-  book-fits : fits (slotCount 64 (length t)) w time Book m ≡ true → Fitting time m t w
+  book-fits : fits (countIn books (length t)) w time Book m ≡ true → Fitting time m t w
   unfolding fits noSlot misfits booksAfter
   book-fits f = go (hasEntries m) refl f
     where
       go : (b : Bool) → hasEntries m ≡ b
-          → (not b || (leb (length (withCode (securityCode m) (w .codes))) (slotCount 64 (length t)) && not (misfit (bookAfter time m (replayOn (securityCode m) (w .deeds) emptyBook))))) ≡ true
-          → ((b && noneFree (placeIn (securityCode m) t)) ≡ false) × ((b && misfit (bookMet time m t)) ≡ false)
+          → (not b || (leb (length (withCode (securityCode m) (w .codes))) (countIn books (length t)) && not (misfit (bookAfter time m (replayOn (securityCode m) (w .deeds) emptyBook))))) ≡ true
+          → ((b && noneFree (placeIn (securityCode m) t)) ≡ false) × ((b && misfit (bookStep time m t)) ≡ false)
           × Filled (booksAfter time m t) (cond b (withCode (securityCode m) (w .codes)) (w .codes))
       go true e f =
-          let q = both (leb (length (withCode (securityCode m) (w .codes))) (slotCount 64 (length t))) _ f in
-          let l = leb-true (length (withCode (securityCode m) (w .codes))) (slotCount 64 (length t)) (q .0) in
-          let x : misfit (bookMet time m t) ≡ false = rw same (not-true (misfit (bookAfter time m (replayOn (securityCode m) (w .deeds) emptyBook))) (q .1)) in
+          let q = both (leb (length (withCode (securityCode m) (w .codes))) (countIn books (length t))) _ f in
+          let l = leb-true (length (withCode (securityCode m) (w .codes))) (countIn books (length t)) (q .0) in
+          let x : misfit (bookStep time m t) ≡ false = rw same (not-true (misfit (bookAfter time m (replayOn (securityCode m) (w .deeds) emptyBook))) (q .1)) in
           (room (securityCode m) t (w .codes) filled l, x, books-filled time m t (w .codes) nz filled e x l)
       go false e f = (refl, refl, rw e filled)
 
@@ -206,7 +206,7 @@ module _ (time : ℕ) (m t : List ℕ) (w : Talk) (nz : securityCode m ≡ 0 →
 opened : (s : State) (h : History) (w : Talk) (b c : Bool) → b ≡ true → c ≡ true → s .feed .fresh ≡ true → Told NeedsLogon (s .feed .internal) (s .tables .books) (h .deeds) (w .last) (w .deeds) (w .codes)
     → Core (enterLive (cond b (cleared s) s .feed)) (cond b (cleared s) s .tables .books) (cond c [] (h .deeds)) (toStage Open w)
 opened s h w true true e f r q =
-    record { phase = refl; fresh = r; told = (sym (q .0), sym (q .1), subst (λ (cs : List ℕ). Filled (clearedWords 64 (s .tables .books)) cs) (sym (q .2)) (none-filled (s .tables .books))) }
+    record { phase = refl; fresh = r; told = (sym (q .0), sym (q .1), subst (λ (cs : List ℕ). Filled (clearedIn books (s .tables .books)) cs) (sym (q .2)) (none-filled (s .tables .books))) }
 opened s h w true false e f r q = absurd (true≢false (sym f))
 opened s h w false c e f r q = absurd (true≢false (sym e))
 
@@ -216,7 +216,7 @@ after-logon : (st : Status) (s : State) (h : History) (w : Talk) → letsIn st �
 unfolding letsIn loggedOn noteStatus afterLogon
 after-logon Opens s h w e r f q = opened s h w (s .feed .fresh) (h .fresh) r f r q
 after-logon Refills s h w e r f q =
-    record { phase = refl; fresh = r; told = (sym (q .0), sym (q .1), subst (λ (cs : List ℕ). Filled (clearedWords 64 (s .tables .books)) cs) (sym (q .2)) (none-filled (s .tables .books))) }
+    record { phase = refl; fresh = r; told = (sym (q .0), sym (q .1), subst (λ (cs : List ℕ). Filled (clearedIn books (s .tables .books)) cs) (sym (q .2)) (none-filled (s .tables .books))) }
 after-logon Stays s h w e r f q = absurd (true≢false (sym e))
 after-logon Closes s h w e r f q = absurd (true≢false (sym e))
 after-logon Unlisted s h w e r f q = absurd (true≢false (sym e))
@@ -319,7 +319,7 @@ module _ (n : ℕ) (s : State) (h : History) (w : Talk) (k : S.Inv n s h) (i : G
   heeds = ap deaf (i .core .phase) ∙ not-deaf (w .stage)
 
   module _ (seq internal : ℕ) (m : List ℕ) (sq : isNext (s .feed) seq ≡ true) (sz : wrongSize m ≡ false) (ls : listed (kind m) m ≡ true)
-      (du : due (kind m) (w .stage) internal m ≡ true) (gd : good (slotCount 64 n) w time (kind m) internal m ≡ true) where
+      (du : due (kind m) (w .stage) internal m ≡ true) (gd : good (countIn books n) w time (kind m) internal m ≡ true) where
     abbrev x : News
     x = Message seq internal m
 
@@ -350,8 +350,8 @@ module _ (n : ℕ) (s : State) (h : History) (w : Talk) (k : S.Inv n s h) (i : G
           let q =
           market-told (w .stage) Book internal m (s .feed .internal) (s .tables .books) (h .deeds) (w .last) (w .deeds) (w .codes) (rw e at du) (i .core .told) in
           let a : again w internal ≡ false = sym (seen-again (s .feed) w Book internal (i .core .phase) (q .0)) ∙ (rw e at un) in
-          let g : (again w internal || fits (slotCount 64 n) w time Book m) ≡ true = rw e at gd in
-          let f : fits (slotCount 64 n) w time Book m ≡ true = rw a at g in
+          let g : (again w internal || fits (countIn books n) w time Book m) ≡ true = rw e at gd in
+          let f : fits (countIn books n) w time Book m ≡ true = rw a at g in
           book-fits time m (s .tables .books) w nz (q .2)
           (k .booked (securityCode m) nz ∙ ap (λ (ds : List Deed). replayOn (securityCode m) ds emptyBook) (q .1))
           (rw (k .base .ours .long) f)
@@ -393,7 +393,7 @@ module _ (n : ℕ) (s : State) (h : History) (w : Talk) (k : S.Inv n s h) (i : G
         go true e = repeated e
         go false e = first-said e
 
-  on-news : (x : News) → fairNews (slotCount 64 n) w time x ≡ true → Stepped s h x time (saidNews x time w)
+  on-news : (x : News) → fairNews (countIn books n) w time x ≡ true → Stepped s h x time (saidNews x time w)
   unfolding fairNews saidNews number act taken noteNews tests lineTests tableTests first onMessage arrives lacksNeed isMore isNext oneOf
   on-news (Linked link) f = absurd (true≢false (sym f))
   on-news More f = absurd (true≢false (sym f))
@@ -406,7 +406,7 @@ module _ (n : ℕ) (s : State) (h : History) (w : Talk) (k : S.Inv n s h) (i : G
       let c = not (wrongSize m) in
       let d = listed (kind m) m in
       let e = due (kind m) (w .stage) internal m in
-      let p₅ = both (a && b && c && d && e) (good (slotCount 64 n) w time (kind m) internal m) f in
+      let p₅ = both (a && b && c && d && e) (good (countIn books n) w time (kind m) internal m) f in
       let p₄ = both (a && b && c && d) e (p₅ .0) in
       let p₃ = both (a && b && c) d (p₄ .0) in
       let p₂ = both (a && b) c (p₃ .0) in
@@ -425,22 +425,22 @@ pair true b e t = t
 pair false b e t = absurd (true≢false (sym e))
 
 module _ (limit n : ℕ) where
-  on-event : (s : State) (h : History) (w : Talk) (e : Event) → S.Inv n s h → Goes s h w → T (fair limit (slotCount 64 n) w e)
+  on-event : (s : State) (h : History) (w : Talk) (e : Event) → S.Inv n s h → Goes s h w → T (fair limit (countIn books n) w e)
       → (accepted (outcome s e .given .answer) ≡ true) × Goes (after s e) (note h e (outcome s e .given .answer)) (saidNews (news e) (timeOf e) w)
   unfolding outcome handed after note fair
   on-event s h w e k i f =
-      let p = two (leb (w .at) (timeOf e) && leb (timeOf e) (w .at + limit)) (fairNews (slotCount 64 n) w (timeOf e) (news e)) f in
+      let p = two (leb (w .at) (timeOf e) && leb (timeOf e) (w .at + limit)) (fairNews (countIn books n) w (timeOf e) (news e)) f in
       let q = two (leb (w .at) (timeOf e)) (leb (timeOf e) (w .at + limit)) (p .0) in
       let r = on-news n s h w k i (timeOf e) (leb-true (w .at) (timeOf e) (of-T _ (q .0))) (news e) (of-T _ (p .1)) in
       (r .fine, r .goes)
 
-  on-talk : (es : List Event) (s : State) (h : History) (w : Talk) → S.Inv n s h → Goes s h w → Bytes es → T (fairly limit (slotCount 64 n) w es)
+  on-talk : (es : List Event) (s : State) (h : History) (w : Talk) → S.Inv n s h → Goes s h w → Bytes es → T (fairly limit (countIn books n) w es)
       → T (all (λ p. accepted (p .1)) (trace s es)) × Goes (run s es) (recall h (trace s es)) (talk w es)
   unfolding run trace recall talk fairly all
   on-talk [] s h w k i b f = (tt, i)
   on-talk (e ∷ es) s h w k i b f =
       let c = two (handsBytes e) (all handsBytes es) b in
-      let p = two (fair limit (slotCount 64 n) w e) (fairly limit (slotCount 64 n) (saidNews (news e) (timeOf e) w) es) f in
+      let p = two (fair limit (countIn books n) w e) (fairly limit (countIn books n) (saidNews (news e) (timeOf e) w) es) f in
       let r = on-event s h w e k i (p .0) in
       let t =
       on-talk es (after s e) (note h e (outcome s e .given .answer)) (saidNews (news e) (timeOf e) w)
@@ -448,12 +448,12 @@ module _ (limit n : ℕ) where
       (pair (accepted (outcome s e .given .answer)) _ (r .0) (t .0), t .1)
 
   -- a part of it
-  part-fair : (es fs : List Event) (w : Talk) → T (fairly limit (slotCount 64 n) w (es ++ fs)) → T (fairly limit (slotCount 64 n) w es)
+  part-fair : (es fs : List Event) (w : Talk) → T (fairly limit (countIn books n) w (es ++ fs)) → T (fairly limit (countIn books n) w es)
   unfolding fairly
   part-fair [] fs w f = tt
   part-fair (e ∷ es) fs w f =
-      let p = two (fair limit (slotCount 64 n) w e) (fairly limit (slotCount 64 n) (saidNews (news e) (timeOf e) w) (es ++ fs)) f in
-      pair (fair limit (slotCount 64 n) w e) _ (of-T _ (p .0)) (part-fair es fs (saidNews (news e) (timeOf e) w) (p .1))
+      let p = two (fair limit (countIn books n) w e) (fairly limit (countIn books n) (saidNews (news e) (timeOf e) w) (es ++ fs)) f in
+      pair (fair limit (countIn books n) w e) _ (of-T _ (p .0)) (part-fair es fs (saidNews (news e) (timeOf e) w) (p .1))
 
 part-bytes : (es fs : List Event) → Bytes (es ++ fs) → Bytes es
 unfolding all

@@ -1,29 +1,16 @@
 -- What a call leaves alone, proved: each is named as its statement in specs/Leaves, with a small letter. Assumes nothing.
 use Prim.Native.Nat.{ℕ}
-use native.Mathlib.Decide.{ℕ-discrete}
 use mathlib.Core.Path.{_≡_, refl, sym, ap, _∙_, subst}
-use mathlib.Core.Logic.{_⊎_, inl, inr, ⊎-elim}
-use mathlib.Core.Bool.{Bool, true, false, cond, not, _&&_, _||_, true≢false}
+use mathlib.Core.Bool.{Bool, true, false, cond, _||_, true≢false}
 use mathlib.Core.List.{List, [], _∷_}
-use mathlib.Core.Option.{Option, none, some}
-use lib.ListN.{length, getD, set}
-use lib.Seq.{getD-set-same, getD-set-other}
 use lib.Dec.{T}
 use Rattle.ground.specs.Choice.{oneOf}
 use Rattle.ground.proofs.Bools.{split}
 use Rattle.ground.proofs.Choices.{each-has}
-use Rattle.slots.specs.Slots.{slotCount, slotsOf, codeOf, put}
-use Rattle.slots.specs.declared.Slot.{Slot}
-use Rattle.slots.specs.declared.Slot.the-variants.{Held, Free, Full}
-use Rattle.slots.proofs.Blocks.{length-blocks, slots-put}
-use Rattle.slots.proofs.Lookup.{held-code, free-code}
-use Rattle.slots.proofs.Frame.{taken-fits}
+use Rattle.slots.specs.Slots.{codeOf}
 use Rattle.slots.proofs.Zeros.{length-cleared, slots-cleared, tail-cleared}
-use Rattle.ladder.specs.Message.{securityCode}
-use Rattle.ladder.specs.Walk as Walk
-use Rattle.ladder.specs.Words.{wordsOf}
-use Rattle.ladder.proofs.Writes.{book-words}
-use Rattle.books.specs.Table.{placeIn, block, bookMet, hasEntries, written, booksAfter}
+use Rattle.books.specs.Table.{books, block}
+use Rattle.books.proofs.Frames.{books-codes}
 use Rattle.feed.specs.Messages.{kind, onMarket, book, statusOf, logonStatus}
 use Rattle.feed.specs.Events.{Tables, clearedTables, State, Event, News, Linked, More, Heartbeat, Message, news, timeOf, onMessage}
 use Rattle.feed.specs.Answers.{number, passed, answerTo, reply}
@@ -155,43 +142,12 @@ clear-call s e z c = rw (zero-take (reply s e) (reply-proper s e) z) (clear-news
 pub wipesSlots : L.WipesSlots
 wipesSlots s e z c =
     let t : List ℕ = s .tables .books in
-    rw (clear-call s e z c) (slots-cleared 64 t, tail-cleared 64 t, length-cleared 64 t)
-
--- a code's block written to its slot frees none
-put-keeps : (c k : ℕ) (t : List ℕ) → (placeIn c t ≡ Held k) ⊎ (placeIn c t ≡ Free k) → (b : Walk.Book) (j : ℕ) → (codeOf (block j t) ≡ 0 → ⊥)
-    → codeOf (block j (put 64 k (wordsOf c b) t)) ≡ codeOf (block j t)
-unfolding wordsOf
-put-keeps c k t h b j nz =
-    let fit = taken-fits 64 c k t h in
-    ap (λ (bs : List (List ℕ)). codeOf (getD bs j [])) (slots-put 64 k (wordsOf c b) t fit (book-words c b)) ∙ go (ℕ-discrete j k) h
-  where
-    go : Dec (j ≡ k) → (placeIn c t ≡ Held k) ⊎ (placeIn c t ≡ Free k) → codeOf (getD (set (slotsOf 64 t) k (wordsOf c b)) j []) ≡ codeOf (block j t)
-    go (no e) h = ap codeOf (getD-set-other (slotsOf 64 t) k j (wordsOf c b) [] e)
-    go (yes e) (inl f) =
-        rw e
-        (ap codeOf (getD-set-same (slotsOf 64 t) k (wordsOf c b) [] (rw (length-blocks 64 (slotCount 64 (length t)) t) (taken-fits 64 c k t (inl f))))
-        ∙ sym (held-code c (slotsOf 64 t) k f))
-    go (yes e) (inr f) = absurd (nz (rw e (free-code c (slotsOf 64 t) k f)))
-
-written-keeps : (c : ℕ) (t : List ℕ) (p : Slot) → placeIn c t ≡ p → (r : Option Walk.Book) (j : ℕ) → (codeOf (block j t) ≡ 0 → ⊥)
-    → codeOf (block j (written p c r t)) ≡ codeOf (block j t)
-unfolding written
-written-keeps c t (Held k) e none j nz = refl
-written-keeps c t (Held k) e (some b) j nz = put-keeps c k t (inl e) b j nz
-written-keeps c t (Free k) e none j nz = refl
-written-keeps c t (Free k) e (some b) j nz = put-keeps c k t (inr e) b j nz
-written-keeps c t Full e r j nz = refl
-
-books-keep : (time : ℕ) (m t : List ℕ) (j : ℕ) → (codeOf (block j t) ≡ 0 → ⊥) → codeOf (block j (booksAfter time m t)) ≡ codeOf (block j t)
-unfolding booksAfter
-books-keep time m t j nz =
-    split (λ (u : List ℕ). codeOf (block j u) ≡ codeOf (block j t)) (hasEntries m) _ t
-    (λ e. written-keeps (securityCode m) t (placeIn (securityCode m) t) refl (bookMet time m t) j nz) (λ e. refl)
+    rw (clear-call s e z c) (slots-cleared (books .most) (books .width) t, tail-cleared (books .most) (books .width) t, length-cleared (books .most) (books .width) t)
 
 pub keepsSlots : L.KeepsSlots
 unfolding clearing onMessage tablesAfter
 keepsSlots s e h j nz =
     by-call (λ (x : Tables). codeOf (block j (x .books)) ≡ codeOf (block j (s .tables .books))) s e
-    (λ seq internal m x z f. books-keep (timeOf e) m (s .tables .books) j nz)
+    (λ seq internal m x z f. books-codes (timeOf e) m (s .tables .books) j nz)
     (λ seq internal m x z f. absurd (true≢false (sym f ∙ subst (λ (n : News). onMessage (λ seq internal m. clears (s .feed .fresh) (kind m) m) n ≡ false) x (h z))))
     refl

@@ -9,7 +9,6 @@ pub mod Demands
 pub mod Morning
 pub mod Ledgers
 pub mod NoHole
-pub mod Codes
 pub mod GoodMorning
 pub mod Leaves
 pub mod Decisions

@@ -1,24 +1,12 @@
 -- Demand 3, the table: it is the replay, from empty, of the book messages taken since the last clearing. Assumes nothing.
-use Prim.Native.Nat.{ℕ, zero, suc, _+_, _-_, _*_, _<_}
-use native.Mathlib.Omega.{arith}
+use Prim.Native.Nat.{ℕ}
 use mathlib.Core.Path.{_≡_, refl, sym, ap, _∙_, subst}
 use mathlib.Core.Bool.{Bool, true, false, cond, _&&_}
 use mathlib.Core.List.{List, [], _∷_, _++_}
-use mathlib.Core.Logic.{inl, inr}
-use mathlib.Core.Option.{Option, none, some}
-use lib.ListN.{length, drop, replicate, length-replicate, replicate-append-replicate}
-use Rattle.slots.specs.Slots as S
-use Rattle.slots.specs.Slots.{slotCount, cleared as clearedWords}
-use Rattle.slots.specs.declared.Slot.{Slot}
-use Rattle.slots.specs.declared.Slot.the-variants.{Held, Free, Full}
-use Rattle.slots.proofs.Blocks.{slots-fit, length-put, tail-put}
-use Rattle.slots.proofs.Frame.{taken-fits}
 use Rattle.ground.proofs.Bools.{split}
-use Rattle.ladder.specs.Message.{securityCode}
-use Rattle.ladder.specs.Words.{wordsOf}
-use Rattle.ladder.specs.Walk as Walk
-use Rattle.ladder.proofs.Writes.{book-words}
-use Rattle.books.specs.Table.{placeIn, bookMet, hasEntries, written, booksAfter}
+use Rattle.slots.proofs.Ours.{Ours, ours-start, clear-ours}
+use Rattle.books.specs.Table.{books}
+use Rattle.books.proofs.Frames.{books-ours}
 use Rattle.feed.specs.Messages.{kind, market, statusOf, logonStatus}
 use Rattle.feed.specs.Feeds.{is, internalIs}
 use Rattle.feed.specs.Events.{Tables, clearedTables, State, Event}
@@ -40,64 +28,20 @@ unfolding replay
 replay-snoc [] d x = refl
 replay-snoc (e ∷ ds) d x = replay-snoc ds d (perform e x)
 
-drop-zeros : (k n : ℕ) → drop k (replicate {A = ℕ} n 0) ≡ replicate (n - k) 0
-drop-zeros zero n = let e : n - 0 ≡ n = omega arith in rw e
-drop-zeros (suc k) zero = let e : 0 - suc k ≡ 0 = omega arith in rw e
-drop-zeros (suc k) (suc n) = let e : suc n - suc k ≡ n - k = omega arith in rw e (drop-zeros k n)
-
--- n words, of which those behind the slots are zero
-abbrev slotted : ℕ → ℕ
-slotted n = 64 * slotCount 64 n
-
-pub record Ours (n : ℕ) (w : List ℕ) : Type 0 where
-  pub long : length w ≡ n
-  pub rest : drop (slotted n) w ≡ replicate (n - slotted n) 0
-
-pub ours-start : (n : ℕ) → Ours n (replicate n 0)
-ours-start n = record { long = length-replicate n 0; rest = drop-zeros (slotted n) n }
-
-pub clear-ours : (n : ℕ) (w : List ℕ) → Ours n w → clearedWords 64 w ≡ replicate n 0
-unfolding clearedWords
-clear-ours n w o =
-    rw (o .long, o .rest, replicate-append-replicate)
-    (ap (λ (k : ℕ). replicate k 0) (let e : slotted n + (n - slotted n) ≡ n = omega (arith, slots-fit 64 n) in e))
-
--- a block written to one of the slots
-put-ours : (n k : ℕ) (b w : List ℕ) → length b ≡ 64 → k < slotCount 64 (length w) → Ours n w → Ours n (S.put 64 k b w)
-put-ours n k b w e h o =
-    let fit = slots-fit 64 (length w) in
-    record {
-      long = length-put 64 (slotCount 64 (length w)) k b w h fit e ∙ o .long;
-      rest = rw (← o .long) (tail-put 64 (slotCount 64 (length w)) k b w h fit e ∙ rw (o .long) (o .rest));
-    }
-
-written-ours : (n c : ℕ) (w : List ℕ) (p : Slot) → placeIn c w ≡ p → (r : Option Walk.Book) → Ours n w → Ours n (written p c r w)
-unfolding written
-written-ours n c w (Held k) e none o = o
-written-ours n c w (Held k) e (some b) o = put-ours n k (wordsOf c b) w (book-words c b) (taken-fits 64 c k w (inl e)) o
-written-ours n c w (Free k) e none o = o
-written-ours n c w (Free k) e (some b) o = put-ours n k (wordsOf c b) w (book-words c b) (taken-fits 64 c k w (inr e)) o
-written-ours n c w Full e r o = o
-
-pub books-ours : (n time : ℕ) (m w : List ℕ) → Ours n w → Ours n (booksAfter time m w)
-unfolding booksAfter
-books-ours n time m w o =
-    split (Ours n) (hasEntries m) _ w (λ t. written-ours n (securityCode m) w (placeIn (securityCode m) w) refl (bookMet time m w) o) (λ t. o)
-
 pub record Inv (n : ℕ) (s : State) (h : History) : Type 0 where
   pub fresh : s .feed .fresh ≡ h .fresh
   pub table : s .tables ≡ replay (h .deeds) (zeroed n)
-  pub ours : Ours n (s .tables .books)
+  pub ours : Ours books n (s .tables .books)
 
-pub clear-all : (n : ℕ) (x : Tables) → Ours n (x .books) → clearedTables x ≡ zeroed n
-clear-all n x o = λ i. record { books = clear-ours n (x .books) o i }
+pub clear-all : (n : ℕ) (x : Tables) → Ours books n (x .books) → clearedTables x ≡ zeroed n
+clear-all n x o = λ i. record { books = clear-ours books n (x .books) o i }
 
 -- a clearing, done or not
 opened : (n : ℕ) (s : State) (h : History) (refresh : Bool) → Inv n s h → (b : Bool) → (f : Feed) → f .fresh ≡ s .feed .fresh
     → Inv n (record { feed = f; tables = cond b (cleared s) s .tables }) (noteLogon refresh b h)
 unfolding replay
 opened n s h refresh i true f e =
-    record { fresh = e ∙ i .fresh; table = clear-all n (s .tables) (i .ours); ours = rw (clear-ours n (s .tables .books) (i .ours)) (ours-start n) }
+    record { fresh = e ∙ i .fresh; table = clear-all n (s .tables) (i .ours); ours = rw (clear-ours books n (s .tables .books) (i .ours)) (ours-start books n) }
 opened n s h refresh i false f e = record { fresh = e ∙ i .fresh; table = i .table; ours = i .ours }
 
 live-fresh : (s : State) → enterLive (cond (s .feed .fresh) (cleared s) s .feed) .fresh ≡ s .feed .fresh
@@ -124,7 +68,7 @@ after-message n (Session Request) time m s h i = i
 after-message n (Market Book) time m s h i = record {
   fresh = i .fresh;
   table = ap (perform (Took time m)) (i .table) ∙ sym (replay-snoc (h .deeds) (Took time m) (zeroed n));
-  ours = books-ours n time m (s .tables .books) (i .ours);
+  ours = books-ours time m (s .tables .books) n (i .ours);
 }
 after-message n (Market Other) time m s h i = record { fresh = i .fresh; table = i .table; ours = i .ours }
 
@@ -147,7 +91,7 @@ keeps n = record {
 
 pub inv-start : (limit n : ℕ) → Inv n (start limit n) noHistory
 unfolding replay
-inv-start limit n = record { fresh = ap (λ (f : Feed). f .fresh) (new-feed limit); table = refl; ours = ours-start n }
+inv-start limit n = record { fresh = ap (λ (f : Feed). f .fresh) (new-feed limit); table = refl; ours = ours-start books n }
 
 -- DEMAND 3, the table
 pub table-replayed : (limit n : ℕ) (es : List Event) → run (start limit n) es .tables ≡ replay (history (start limit n) es .deeds) (zeroed n)

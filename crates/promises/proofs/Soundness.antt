@@ -3,21 +3,20 @@ use Prim.Native.Nat.{ℕ}
 use mathlib.Core.Path.{_≡_, refl, sym, ap, _∙_, subst}
 use mathlib.Core.Bool.{Bool, true, false, cond, _&&_, true≢false}
 use mathlib.Core.List.{List, [], _∷_, _++_}
-use lib.Dec.{T, eqb}
+use lib.Dec.{T}
 use lib.ListN.{drop, replicate}
-use borrow.Author.Tests.{eqb-true, eqb-false}
 use Rattle.ground.specs.Choice.{all}
 use Rattle.wire.specs.Number.{bytesOnly}
 use Rattle.wire.specs.Units.{unitOf}
 use Rattle.wire.specs.declared.Unit.{Unit}
 use Rattle.wire.specs.declared.Unit.the-variants as unit
-use Rattle.slots.specs.Slots.{cleared as clearedWords}
-use Rattle.ladder.specs.Message.{securityCode}
+use Rattle.slots.specs.Layout.{clearedIn}
+use Rattle.slots.proofs.Ours.{ours-start, clear-ours}
 use Rattle.ladder.specs.Walk as Walk
 use Rattle.ladder.specs.Words.{sound}
 use Rattle.ladder.proofs.Orders.{all-take, all-drop}
-use Rattle.books.specs.Table.{unsound, noSlot, misfits, booksAfter}
-use Rattle.books.proofs.Frames.{AllSound, books-sound, books-own, books-other, cleared-sound, cleared-empty}
+use Rattle.books.specs.Table.{books, bookIn, unsound, noSlot, misfits}
+use Rattle.books.proofs.Frames.{AllSound, books-sound, books-each, cleared-sound, cleared-empty}
 use Rattle.feed.specs.Messages.{kind, onMarket, book, statusOf, logonStatus}
 use Rattle.feed.specs.Events.{State, Event, Connect, Arrive, Cut, Message, news, cutFrom}
 use Rattle.feed.specs.Answers.{ofBook}
@@ -28,11 +27,10 @@ use Rattle.feed.specs.declared.Session.the-variants.{SendKey, Logon, Logout, Re
 use Rattle.feed.specs.declared.Datum.the-variants.{Book, Other}
 use Rattle.feed.specs.declared.Status.{Status}
 use Rattle.feed.specs.declared.Status.the-variants.{Opens, Refills, Stays, Closes, Unlisted}
-use Rattle.promises.specs.Runs.{start, run, Deed, Took, History, noHistory, noteLogon, noteStatus, noteTaken, history, settled, performOn, replayOn}
-use Rattle.promises.specs.Demands.{handsBytes, Bytes, bookIn}
+use Rattle.promises.specs.Runs.{start, run, Deed, Took, History, noHistory, noteLogon, noteStatus, noteTaken, history, performOn, replayOn}
+use Rattle.promises.specs.Demands.{handsBytes, Bytes}
 use Rattle.promises.proofs.Steps.{OfNews, Each, Keeps, on-run}
 use Rattle.promises.proofs.Replays as R
-use Rattle.promises.proofs.Replays.{clear-ours}
 
 of-T : (b : Bool) → T b → b ≡ true
 of-T true h = refl
@@ -60,20 +58,6 @@ pub record Inv (n : ℕ) (s : State) (h : History) : Type 0 where
   pub sounds : AllSound (s .tables .books)
   pub booked : Booked (s .tables .books) (h .deeds)
 
--- a book message that is taken, on each code's book
-module _ (time : ℕ) (m t : List ℕ) (s : unsound m t ≡ false) (f : noSlot m t ≡ false) (g : misfits time m t ≡ false) where
-  at-code : (c : ℕ) → (c ≡ 0 → ⊥) → (b : Bool) → eqb (securityCode m) c ≡ b
-      → bookIn c (booksAfter time m t) ≡ cond b (settled (Walk.bookAfter time m (bookIn c t)) (bookIn c t)) (bookIn c t)
-  unfolding settled
-  at-code c z true e =
-      let q : securityCode m ≡ c = eqb-true (securityCode m) c e in
-      rw (← q, books-own time m t s f g)
-  at-code c z false e = books-other time m t c (eqb-false (securityCode m) c e) z
-
-  one-book : (c : ℕ) → (c ≡ 0 → ⊥) → bookIn c (booksAfter time m t) ≡ performOn c (Took time m) (bookIn c t)
-  unfolding performOn
-  one-book c z = at-code c z (eqb (securityCode m) c) refl
-
 -- a clearing, done or not
 opened : (n : ℕ) (s : State) (h : History) (refresh : Bool) → Inv n s h → (b : Bool)
     → AllSound (cond b (cleared s) s .tables .books) × Booked (cond b (cleared s) s .tables .books) (noteLogon refresh b h .deeds)
@@ -96,7 +80,7 @@ after-status n Unlisted s h i = (i .sounds, i .booked)
 
 after-message : (n : ℕ) (k : Kind) (time : ℕ) (m : List ℕ) (s : State) (h : History) → T (bytesOnly m) → ofBook k (unsound m (s .tables .books)) ≡ false
     → ofBook k (noSlot m (s .tables .books)) ≡ false → ofBook k (misfits time m (s .tables .books)) ≡ false → Inv n s h → Kept (does k time m s) (noteTaken k time m h)
-unfolding does noteTaken tablesAfter ofBook onMarket book
+unfolding does noteTaken tablesAfter ofBook onMarket book performOn
 after-message n (Session SendKey) time m s h b x y z i = (i .sounds, i .booked)
 after-message n (Session Logon) time m s h b x y z i = after-status n (statusOf (logonStatus m)) s h i
 after-message n (Session Logout) time m s h b x y z i = (i .sounds, i .booked)
@@ -105,7 +89,7 @@ after-message n (Session Complete) time m s h b x y z i = (i .sounds, i .booked)
 after-message n (Session Request) time m s h b x y z i = (i .sounds, i .booked)
 after-message n (Market Book) time m s h b x y z i = (
   books-sound time m (s .tables .books) b (i .sounds),
-  λ c nz. one-book time m (s .tables .books) x y z c nz ∙ ap (performOn c (Took time m)) (i .booked c nz) ∙ sym (replayOn-snoc c (h .deeds) (Took time m) Walk.emptyBook),
+  λ c nz. books-each time m (s .tables .books) x y z c nz ∙ ap (performOn c (Took time m)) (i .booked c nz) ∙ sym (replayOn-snoc c (h .deeds) (Took time m) Walk.emptyBook),
 )
 after-message n (Market Other) time m s h b x y z i = (i .sounds, i .booked)
 
@@ -147,8 +131,8 @@ bytes-each (e ∷ es) h =
     let p = two (handsBytes e) (all handsBytes es) h in
     (bytes-news e (p .0), bytes-each es (p .1))
 
-zeros-cleared : (n : ℕ) → replicate n 0 ≡ clearedWords 64 (replicate n 0)
-zeros-cleared n = sym (clear-ours n (replicate n 0) (R.ours-start n))
+zeros-cleared : (n : ℕ) → replicate n 0 ≡ clearedIn books (replicate n 0)
+zeros-cleared n = sym (clear-ours books n (replicate n 0) (ours-start books n))
 
 inv-start : (limit n : ℕ) → Inv n (start limit n) noHistory
 unfolding replayOn

@@ -11,14 +11,14 @@ use Rattle.ground.specs.Choice.{oneOf, all}
 use Rattle.wire.specs.Number.{bytesOnly}
 use Rattle.wire.specs.Units.{unitOf}
 use Rattle.wire.specs.declared.Unit.the-variants as unit
-use Rattle.slots.specs.Slots.{slotCount, slotsOf}
+use Rattle.slots.specs.Layout.{countIn, slotsIn}
 use Rattle.slots.specs.declared.Slot.the-variants.{Held, Free}
 use Rattle.ladder.specs.Message.{securityCode}
 use Rattle.ladder.specs.Sides.{noRow}
 use Rattle.ladder.specs.declared.Row.{Row}
-use Rattle.ladder.specs.Walk.{Book, emptyBook, bookAfter}
+use Rattle.ladder.specs.Walk.{emptyBook, bookAfter}
 use Rattle.ladder.specs.Words.{bookWidth, sound, SoundBook}
-use Rattle.books.specs.Table.{placeIn, block, bookAt}
+use Rattle.books.specs.Table.{books, placeIn, block, bookIn}
 use Rattle.books.specs.Reading.{readRow}
 use Rattle.feed.specs.Messages.{kind, statusOf, logonStatus}
 use Rattle.feed.specs.Feeds.{newGiven}
@@ -83,10 +83,6 @@ Next =
     → accepted (answerOf s e) ≡ true
     → (seq ≡ s .feed .next) × (seq ≤ 4294967295)
 
--- the book of a code in a table
-abbrev pub bookIn : ℕ → List ℕ → Book
-bookIn c t = bookAt (placeIn c t) t
-
 -- a book message that is taken: a message of type 53, answered 0
 pub record Taken (s : State) (e : Event) (m : List ℕ) : Type 0 where
   pub seq : ℕ
@@ -117,8 +113,8 @@ Others =
     → block j (behind s e) ≡ block j (before s))
     × ((c : ℕ) → (securityCode m ≡ c → ⊥) → (c ≡ 0 → ⊥) → bookIn c (behind s e) ≡ bookIn c (before s))
     × (length (behind s e) ≡ length (before s))
-    × (drop (bookWidth * slotCount bookWidth (length (before s))) (behind s e)
-    ≡ drop (bookWidth * slotCount bookWidth (length (before s))) (before s))
+    × (drop (bookWidth * countIn books (length (before s))) (behind s e)
+    ≡ drop (bookWidth * countIn books (length (before s))) (before s))
 
 -- DEMAND 3, of every run from a new feed of any limit and n zero words.
 -- "the table is what replaying from empty, in order, the book messages taken since the last clearing gives"
@@ -144,7 +140,7 @@ BookByBook =
 abbrev pub Sound : Type 0
 Sound =
     (limit n : ℕ) (es : List Event) → Bytes es
-    → (all sound (slotsOf bookWidth (endOf limit n es .tables .books)) ≡ true)
+    → (all sound (slotsIn books (endOf limit n es .tables .books)) ≡ true)
     × ((c : ℕ) → SoundBook (bookIn c (endOf limit n es .tables .books)))
 
 -- no price twice on a side, for any two ranks

@@ -6,12 +6,11 @@ use mathlib.Core.Bool.{Bool, true, false, cond, not, _&&_, _||_}
 use mathlib.Core.List.{List, [], _∷_, _++_}
 use lib.ListN.{length}
 use lib.Dec.{T, leb, eqb}
-use Rattle.ground.specs.Choice.{oneOf, all}
-use Rattle.slots.specs.Slots.{slotCount}
+use Rattle.ground.specs.Choice.{all}
+use Rattle.slots.specs.Layout.{countIn, withCode}
 use Rattle.ladder.specs.Message.{securityCode}
 use Rattle.ladder.specs.Walk.{emptyBook, bookAfter}
-use Rattle.ladder.specs.Words.{bookWidth}
-use Rattle.books.specs.Table.{hasEntries, misfit}
+use Rattle.books.specs.Table.{books, hasEntries, misfit}
 use Rattle.feed.specs.Messages.{kind, wrongSize, listed, statusOf, logonStatus, lastInternal}
 use Rattle.feed.specs.Feeds.{badgeNo, badgeOf}
 use Rattle.feed.specs.Events.{State, Event, Connect, News, Linked, More, Heartbeat, Message, news, timeOf}
@@ -68,10 +67,6 @@ tells d cs w = record { stage = w .stage; next = w .next; last = w .last; at = w
 -- one message more, or a heartbeat, at a time
 abbrev pub spoken : ℕ → ℕ → Talk → Talk
 spoken next time w = record { stage = w .stage; next = next; last = w .last; at = time; deeds = w .deeds; codes = w .codes }
-
--- codes, with c among them
-unfoldable pub withCode : ℕ → List ℕ → List ℕ
-withCode c cs = cond (oneOf c cs) cs (cs ++ (c ∷ []))
 
 -- what may come when: the key; the logon with 0, 2 or 101; in a refresh 1202, 203 and market messages without an internal number; then market messages with one
 unfoldable pub due : Kind → Stage → ℕ → List ℕ → Bool
@@ -154,7 +149,7 @@ fairly limit slots w (e ∷ es) = fair limit slots w e && fairly limit slots (sa
 abbrev pub GoodMorning : Type 0
 GoodMorning =
     (limit n : ℕ) (es : List Event) (time : ℕ) (part rest : List Event) → Bytes es → Bytes (part ++ rest) → history (start limit n) es .heard ≤ time
-    → T (fairly (start limit n .feed .limit) (slotCount bookWidth n) (begins time) (part ++ rest))
+    → T (fairly (start limit n .feed .limit) (countIn books n) (begins time) (part ++ rest))
     → T (all (λ p. accepted (p .1)) (trace (run (start limit n) (es ++ (Connect Fresh time ∷ []))) (part ++ rest)))
     × ((asked : ℕ) → on (talk (begins time) part .stage) Open ≡ true → talk (begins time) part .at ≤ asked
     → asked ≤ talk (begins time) part .at + start limit n .feed .limit

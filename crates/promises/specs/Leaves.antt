@@ -4,9 +4,10 @@ use mathlib.Core.Path.{_≡_}
 use mathlib.Core.Bool.{Bool, true, false, _||_}
 use mathlib.Core.List.{List}
 use lib.ListN.{length, drop, replicate}
-use Rattle.slots.specs.Slots.{slotCount, slotsOf, codeOf}
+use Rattle.slots.specs.Slots.{codeOf}
+use Rattle.slots.specs.Layout.{countIn, slotsIn}
 use Rattle.ladder.specs.Words.{bookWidth}
-use Rattle.books.specs.Table.{block}
+use Rattle.books.specs.Table.{books, block}
 use Rattle.feed.specs.Messages.{kind, onMarket, book, statusOf, logonStatus}
 use Rattle.feed.specs.Events.{State, Event, news, onMessage}
 use Rattle.feed.specs.Steps.{outcome}
@@ -49,9 +50,9 @@ Leaves = (s : State) (e : Event) → (outcome s e .given .answer ≡ 0 → writi
 abbrev pub WipesSlots : Type 0
 WipesSlots =
     (s : State) (e : Event) → outcome s e .given .answer ≡ 0 → clearing s e ≡ true
-    → (slotsOf bookWidth (outcome s e .tables .books) ≡ replicate (slotCount bookWidth (length (s .tables .books))) (replicate bookWidth 0))
-    × (drop (bookWidth * slotCount bookWidth (length (s .tables .books))) (outcome s e .tables .books)
-    ≡ drop (bookWidth * slotCount bookWidth (length (s .tables .books))) (s .tables .books))
+    → (slotsIn books (outcome s e .tables .books) ≡ replicate (countIn books (length (s .tables .books))) (replicate bookWidth 0))
+    × (drop (bookWidth * countIn books (length (s .tables .books))) (outcome s e .tables .books)
+    ≡ drop (bookWidth * countIn books (length (s .tables .books))) (s .tables .books))
     × (length (outcome s e .tables .books) ≡ length (s .tables .books))
 
 -- nothing but a clearing frees a slot: a slot that has a code keeps it

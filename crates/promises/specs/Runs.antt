@@ -2,10 +2,10 @@
 use Prim.Native.Nat.{ℕ, _+_}
 use mathlib.Core.Bool.{Bool, true, false, cond, not, _&&_}
 use mathlib.Core.List.{List, [], _∷_, _++_}
-use mathlib.Core.Option.{Option, none, some}
 use lib.ListN.{replicate}
 use lib.Dec.{leb, eqb}
 use Rattle.ground.specs.Choice.{oneOf}
+use Rattle.slots.specs.Layout.{valueAfter}
 use Rattle.ladder.specs.Message.{securityCode}
 use Rattle.ladder.specs.Walk.{Book, bookAfter}
 use Rattle.feed.specs.Messages.{kind, statusOf, logonStatus}
@@ -152,12 +152,8 @@ replay [] x = x
 replay (d ∷ ds) x = replay ds (perform d x)
 
 -- the same for one code, by the messages for that code alone and with no table
-unfoldable pub settled : Option Book → Book → Book
-settled none b = b
-settled (some b′) b = b′
-
 unfoldable pub performOn : ℕ → Deed → Book → Book
-performOn c (Took time m) b = cond (eqb (securityCode m) c) (settled (bookAfter time m b) b) b
+performOn c (Took time m) b = valueAfter c (securityCode m) (bookAfter time m) b
 
 unfoldable pub replayOn : ℕ → List Deed → Book → Book
 replayOn c [] b = b

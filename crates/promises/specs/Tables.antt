@@ -5,7 +5,8 @@ use mathlib.Core.List.{List, [], _∷_, _++_}
 use lib.ListN.{take, replicate, set}
 use lib.IntN.{ℤ, pos, negsuc}
 use lib.Dec.{eqb}
-use Rattle.slots.specs.Slots.{slotCount}
+use Rattle.slots.specs.Layout.{countIn}
+use Rattle.books.specs.Table.{books}
 use Rattle.feed.specs.declared.Phase.the-variants.{WaitLogon, Live}
 use Rattle.promises.specs.Checks.{Check, reads}
 use Rattle.promises.specs.Build.{unit, logon, entry, bookMessage, row, block, arrives}
@@ -47,9 +48,9 @@ lengths =
     ∷ wipes "a clearing of 63 words" (replicate 63 5) (replicate 63 5)
     ∷ wipes "a clearing of 127 words" (held ++ replicate 63 5) (replicate 64 0 ++ replicate 63 5)
     ∷ wipes "a clearing of garbage" (replicate 128 18446744073709551615) (replicate 128 0)
-    ∷ record { name = "4,096 slots"; holds = eqb (slotCount 64 (64 * 4096)) 4096 }
-    ∷ record { name = "4,097 blocks are 4,096 slots"; holds = eqb (slotCount 64 (64 * 4097)) 4096 }
-    ∷ record { name = "4,095 slots and a part"; holds = eqb (slotCount 64 (64 * 4095 + 63)) 4095 }
+    ∷ record { name = "4,096 slots"; holds = eqb (countIn books (64 * 4096)) 4096 }
+    ∷ record { name = "4,097 blocks are 4,096 slots"; holds = eqb (countIn books (64 * 4097)) 4096 }
+    ∷ record { name = "4,095 slots and a part"; holds = eqb (countIn books (64 * 4095 + 63)) 4095 }
     ∷ []
 
 unfoldable pub slots : List Check

@@ -6,11 +6,11 @@ use native.Mathlib.Nat.{zero-add, add-zero, add-comm, suc-add, mul-zero, mul-suc
 use native.Mathlib.Omega.{arith}
 use lib.ListN.{length, take, drop, getD, set, length-append, length-take, length-drop, take-append-drop}
 use lib.Seq.{drop-drop, take-at, drop-at, length-take-le, take-add, getD-take, getD-drop, set-comm}
-use Rattle.slots.specs.Slots.{maxSlots, slotCount, blocks, slotsOf, codeOf, put, flat}
+use Rattle.slots.specs.Slots.{slotCount, blocks, slotsOf, codeOf, put, flat}
 
 -- the slots lie within the table
-pub slots-fit : (w len : ℕ) → w * slotCount w len ≤ len
-slots-fit w len = le-trans (mul-le-mul-left w (min-le-right maxSlots (len / w))) (mul-div-le len w)
+pub slots-fit : (most w len : ℕ) → w * slotCount most w len ≤ len
+slots-fit most w len = le-trans (mul-le-mul-left w (min-le-right most (len / w))) (mul-div-le len w)
 
 -- so slot k ends within it
 pub slot-fits : (w n k len : ℕ) → k < n → w * n ≤ len → w * k + w ≤ len
@@ -45,12 +45,6 @@ module _ (w : ℕ) where
   -- its code is the word at w * k
   pub code-at : (n k : ℕ) (t : List ℕ) → 0 < w → k < n → codeOf (getD (blocks w n t) k []) ≡ getD t (w * k) 0
   code-at n k t p h = rw (block-at n k t h, getD-take, getD-drop, add-zero)
-
-  -- a slot has w words
-  pub length-slot : (k : ℕ) (t : List ℕ) → k < slotCount w (length t) → length (getD (slotsOf w t) k []) ≡ w
-  length-slot k t h =
-      let f : w * k + w ≤ length t = slot-fits w (slotCount w (length t)) k (length t) h (slots-fit w (length t)) in
-      ap length (block-at (slotCount w (length t)) k t h) ∙ length-take-le w (drop (w * k) t) (rw length-drop (omega arith))
 
   -- one block in front
   pub blocks-cons : (n : ℕ) (b t : List ℕ) → length b ≡ w → blocks w (suc n) (b ++ t) ≡ b ∷ blocks w n t
@@ -116,12 +110,6 @@ module _ (w : ℕ) where
       ∙ sym (blocks-put n j a (put w k b t) hj fb ea ∙ ap (λ (l : List (List ℕ)). set l j a) (blocks-put n k b t hk f eb)))
       (tail-put n k b (put w j a t) hk fa eb ∙ tail-put n j a t hj f ea ∙ sym (tail-put n j a (put w k b t) hj fb ea ∙ tail-put n k b t hk f eb))
 
-  -- the slots of a table after a write: slot k alone is another
-  pub slots-put : (k : ℕ) (b t : List ℕ) → k < slotCount w (length t) → length b ≡ w → slotsOf w (put w k b t) ≡ set (slotsOf w t) k b
-  slots-put k b t h e =
-      ap (λ (l : ℕ). blocks w (slotCount w l) (put w k b t)) (length-put (slotCount w (length t)) k b t h (slots-fit w (length t)) e)
-      ∙ blocks-put (slotCount w (length t)) k b t h (slots-fit w (length t)) e
-
   -- every block has w words
   abbrev pub Wide : List (List ℕ) → Type 0
   Wide [] = Unit {0}
@@ -141,3 +129,39 @@ module _ (w : ℕ) where
       (λ i. blocks w (suc-add (length bs) m i) (append-assoc b (flat bs) t i))
       ∙ blocks-cons (length bs + m) b (flat bs ++ t) (p .0)
       ∙ ap (λ (l : List (List ℕ)). b ∷ l) (blocks-join m bs t (p .1))
+
+module _ (most w : ℕ) where
+  -- there are as many slots as blocks, and no more than `most`
+  pub length-slots : (t : List ℕ) → length (slotsOf most w t) ≡ slotCount most w (length t)
+  length-slots t = length-blocks w (slotCount most w (length t)) t
+
+  -- a slot has w words
+  pub length-slot : (k : ℕ) (t : List ℕ) → k < slotCount most w (length t) → length (getD (slotsOf most w t) k []) ≡ w
+  length-slot k t h =
+      let f : w * k + w ≤ length t = slot-fits w (slotCount most w (length t)) k (length t) h (slots-fit most w (length t)) in
+      ap length (block-at w (slotCount most w (length t)) k t h) ∙ length-take-le w (drop (w * k) t) (rw length-drop (omega arith))
+
+  -- a slot written with its own words stays
+  pub put-same : (k : ℕ) (t : List ℕ) → k < slotCount most w (length t) → put w k (getD (slotsOf most w t) k []) t ≡ t
+  put-same k t h = rw (block-at w (slotCount most w (length t)) k t h, take-append-drop w (drop (w * k) t), take-append-drop (w * k) t)
+
+  -- a block put in one of the slots
+  module _ (k : ℕ) (b t : List ℕ) (h : k < slotCount most w (length t)) (e : length b ≡ w) where
+    -- a table keeps its length
+    pub same-length : length (put w k b t) ≡ length t
+    same-length = length-put w (slotCount most w (length t)) k b t h (slots-fit most w (length t)) e
+
+    -- slot k alone is another
+    pub slots-put : slotsOf most w (put w k b t) ≡ set (slotsOf most w t) k b
+    slots-put =
+        ap (λ (l : ℕ). blocks w (slotCount most w l) (put w k b t)) same-length
+        ∙ blocks-put w (slotCount most w (length t)) k b t h (slots-fit most w (length t)) e
+
+    -- the words behind the slots stay
+    pub same-tail : drop (w * slotCount most w (length t)) (put w k b t) ≡ drop (w * slotCount most w (length t)) t
+    same-tail = tail-put w (slotCount most w (length t)) k b t h (slots-fit most w (length t)) e
+
+  -- blocks put in two of the slots may change places
+  pub slots-comm : (j k : ℕ) (a b t : List ℕ) → j < slotCount most w (length t) → k < slotCount most w (length t) → (j ≡ k → ⊥)
+      → length a ≡ w → length b ≡ w → put w k b (put w j a t) ≡ put w j a (put w k b t)
+  slots-comm j k a b t hj hk ne = put-comm w (slotCount most w (length t)) j k a b t hj hk ne (slots-fit most w (length t))

@@ -160,6 +160,11 @@ place-other c bs k j b p q f =
     let e : lowest c (set bs k b) ≡ j = lowest-other c bs k b p q ∙ i .0 in
     (place-held c (set bs k b) (rw (e, length-set) (i .1)) ∙ ap Held e, getD-set-other bs k j b [] (λ s. p (ap (codeAt bs) (sym s) ∙ held-code c bs j f)))
 
+-- FRAME: a block set over one of the same code leaves the place of every code
+pub place-same : (c : ℕ) (bs : List (List ℕ)) (k : ℕ) (b : List ℕ) → codeOf b ≡ codeAt bs k → place c (set bs k b) ≡ place c bs
+unfolding place
+place-same c bs k b e = rw (lowest-same c bs k b e, lowest-same 0 bs k b e, length-set)
+
 -- a block of the code set at or before its place: the code is then found there
 pub place-own : (c : ℕ) (bs : List (List ℕ)) (k : ℕ) (b : List ℕ) → k < length bs → k ≤ lowest c bs → codeOf b ≡ c
     → (place c (set bs k b) ≡ Held k) × (getD (set bs k b) k [] ≡ b)

@@ -20,47 +20,48 @@ blocks-zero w (suc n) t =
     ∙ blocks-cons w n (replicate w 0) (replicate (w * n) 0 ++ t) (length-replicate w 0)
     ∙ ap (λ (l : List (List ℕ)). replicate w 0 ∷ l) (blocks-zero w n t)
 
+-- a block of zeros has no code
+pub code-zero : (w : ℕ) → codeOf (replicate w 0) ≡ 0
+code-zero zero = refl
+code-zero (suc w) = refl
+
 -- none of them has a code
 lowest-zero : (w n c : ℕ) → (c ≡ 0 → ⊥) → lowest c (replicate n (replicate w 0)) ≡ n
 unfolding lowest
 lowest-zero w zero c nz = refl
 lowest-zero w (suc n) c nz = rw (ne-eqb (codeOf (replicate w 0)) c (λ e. nz (sym e ∙ code-zero w))) (ap suc (lowest-zero w n c nz))
-  where
-    code-zero : (w : ℕ) → codeOf (replicate w 0) ≡ 0
-    code-zero zero = refl
-    code-zero (suc w) = refl
 
-module _ (w : ℕ) (t : List ℕ) where
+module _ (most w : ℕ) (t : List ℕ) where
   -- a table keeps its length
-  pub length-cleared : length (cleared w t) ≡ length t
+  pub length-cleared : length (cleared most w t) ≡ length t
   unfolding cleared
-  length-cleared = let f = slots-fit w (length t) in simp (length-append, length-replicate, length-drop) (omega arith)
+  length-cleared = let f = slots-fit most w (length t) in simp (length-append, length-replicate, length-drop) (omega arith)
 
   -- and its number of slots
-  same-count : slotCount w (length (cleared w t)) ≡ slotCount w (length t)
-  same-count = ap (slotCount w) length-cleared
+  same-count : slotCount most w (length (cleared most w t)) ≡ slotCount most w (length t)
+  same-count = ap (slotCount most w) length-cleared
 
   -- every slot is zeros
-  pub slots-cleared : slotsOf w (cleared w t) ≡ replicate (slotCount w (length t)) (replicate w 0)
+  pub slots-cleared : slotsOf most w (cleared most w t) ≡ replicate (slotCount most w (length t)) (replicate w 0)
   unfolding cleared
   slots-cleared =
-      ap (λ (n : ℕ). blocks w n (cleared w t)) same-count
-      ∙ blocks-zero w (slotCount w (length t)) (drop (w * slotCount w (length t)) t)
+      ap (λ (n : ℕ). blocks w n (cleared most w t)) same-count
+      ∙ blocks-zero w (slotCount most w (length t)) (drop (w * slotCount most w (length t)) t)
 
   -- the words behind the slots stay
-  pub tail-cleared : drop (w * slotCount w (length t)) (cleared w t) ≡ drop (w * slotCount w (length t)) t
+  pub tail-cleared : drop (w * slotCount most w (length t)) (cleared most w t) ≡ drop (w * slotCount most w (length t)) t
   unfolding cleared
   tail-cleared =
-      let n = slotCount w (length t) in
+      let n = slotCount most w (length t) in
       drop-at (replicate (w * n) 0) (drop (w * n) t) (w * n) (length-replicate (w * n) 0)
 
   -- clearing again changes nothing
-  pub cleared-again : cleared w (cleared w t) ≡ cleared w t
+  pub cleared-again : cleared most w (cleared most w t) ≡ cleared most w t
   unfolding cleared
   cleared-again =
-      ap (λ (n : ℕ). replicate (w * n) 0 ++ drop (w * n) (cleared w t)) same-count
-      ∙ ap (λ (l : List ℕ). replicate (w * slotCount w (length t)) 0 ++ l) tail-cleared
+      ap (λ (n : ℕ). replicate (w * n) 0 ++ drop (w * n) (cleared most w t)) same-count
+      ∙ ap (λ (l : List ℕ). replicate (w * slotCount most w (length t)) 0 ++ l) tail-cleared
 
   -- no code has a slot
-  pub lowest-cleared : (c : ℕ) → (c ≡ 0 → ⊥) → lowest c (slotsOf w (cleared w t)) ≡ slotCount w (length t)
-  lowest-cleared c nz = ap (lowest c) slots-cleared ∙ lowest-zero w (slotCount w (length t)) c nz
+  pub lowest-cleared : (c : ℕ) → (c ≡ 0 → ⊥) → lowest c (slotsOf most w (cleared most w t)) ≡ slotCount most w (length t)
+  lowest-cleared c nz = ap (lowest c) slots-cleared ∙ lowest-zero w (slotCount most w (length t)) c nz

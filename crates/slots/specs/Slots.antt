@@ -1,4 +1,4 @@
--- A lent table as slots of w words (document 01, "The book table"). The width is an argument: books and later tables share all of this. Assumes nothing.
+-- A lent table as slots of w words (document 01, "The book table"). The width and the most slots are arguments: books and later tables share all of this. Assumes nothing.
 use Prim.Native.Nat.{ℕ, zero, suc, _*_, _/_, min}
 use mathlib.Core.Bool.{cond}
 use mathlib.Core.List.{List, [], _∷_, _++_}
@@ -7,12 +7,13 @@ use lib.Dec.{ltb, eqb}
 use Rattle.slots.specs.declared.Slot.{Slot}
 use Rattle.slots.specs.declared.Slot.the-variants.{Held, Free, Full}
 
--- "slots are whole blocks .., at most 4,096"
+-- "slots are whole blocks .., at most 4,096", of books and of what works as they do
 abbrev pub maxSlots : ℕ
 maxSlots = 4096
 
-abbrev pub slotCount : ℕ → ℕ → ℕ
-slotCount w len = min maxSlots (len / w)
+-- how many slots a table of so many words has, at most so many of w words
+abbrev pub slotCount : ℕ → ℕ → ℕ → ℕ
+slotCount most w len = min most (len / w)
 
 -- the first n blocks of w words
 unfoldable pub blocks : ℕ → ℕ → List ℕ → List (List ℕ)
@@ -20,8 +21,8 @@ blocks w zero t = []
 blocks w (suc n) t = take w t ∷ blocks w n (drop w t)
 
 -- the slots of a table; the words behind them are in none
-abbrev pub slotsOf : ℕ → List ℕ → List (List ℕ)
-slotsOf w t = blocks w (slotCount w (length t)) t
+abbrev pub slotsOf : ℕ → ℕ → List ℕ → List (List ℕ)
+slotsOf most w t = blocks w (slotCount most w (length t)) t
 
 -- "word 0 the code (0 = free)"
 abbrev pub codeOf : List ℕ → ℕ
@@ -53,5 +54,5 @@ flat [] = []
 flat (b ∷ bs) = b ++ flat bs
 
 -- "Clearing zeroes all slots": the words behind them stay
-unfoldable pub cleared : ℕ → List ℕ → List ℕ
-cleared w t = replicate (w * slotCount w (length t)) 0 ++ drop (w * slotCount w (length t)) t
+unfoldable pub cleared : ℕ → ℕ → List ℕ → List ℕ
+cleared most w t = replicate (w * slotCount most w (length t)) 0 ++ drop (w * slotCount most w (length t)) t

@@ -3,6 +3,9 @@ ghost use mathlib.Core.Path.{_≡_};
 ghost use Prim.Native.Nat.{_<_};
 ghost use Rattle.slots.specs.Slots.{slotCount, slotsOf, lowest, place, cleared};
 
+// "at most 4,096": how many slots a table of books has at most.
+pub const MOST: usize = 4096;
+
 // Where a code belongs: the lowest slot that has it; else the lowest free slot; else nowhere.
 pub enum Slot {
     Held(usize),
@@ -10,21 +13,21 @@ pub enum Slot {
     Full,
 }
 
-// How many slots a table of `len` words has.
-fn count(len: usize, width: usize) -> usize
+// How many slots a table of `len` words has: whole blocks, and no more than `most`.
+fn count(len: usize, most: usize, width: usize) -> usize
     requires { ⌜ 0 < width ⌝ }
-    ensures { λ r. ⌜ r ≡ slotCount width len ⌝ }
+    ensures { λ r. ⌜ r ≡ slotCount most width len ⌝ }
 {
     let n = len / width;
-    if 4096 < n { 4096 } else { n }
+    if most < n { most } else { n }
 }
 
 // The lowest slot with the code, or how many slots there are.
-fn seek(table: &[u64], width: usize, code: u64) -> usize
+fn seek(table: &[u64], most: usize, width: usize, code: u64) -> usize
     requires { ⌜ 0 < width ⌝ }
-    ensures { λ r. ⌜ r ≡ lowest code (slotsOf width (now (table .entry))) ⌝ }
+    ensures { λ r. ⌜ r ≡ lowest code (slotsOf most width (now (table .entry))) ⌝ }
 {
-    let n = count(table.len(), width);
+    let n = count(table.len(), most, width);
     let mut k = 0;
     let mut at = 0;
     while k < n {
@@ -38,16 +41,16 @@ fn seek(table: &[u64], width: usize, code: u64) -> usize
 }
 
 // Where the code belongs in the table.
-pub fn find(table: &[u64], width: usize, code: u64) -> Slot
+pub fn find(table: &[u64], most: usize, width: usize, code: u64) -> Slot
     requires { ⌜ 0 < width ⌝ }
-    ensures { λ r. ⌜ r ≡ place code (slotsOf width (now (table .entry))) ⌝ }
+    ensures { λ r. ⌜ r ≡ place code (slotsOf most width (now (table .entry))) ⌝ }
 {
-    let n = count(table.len(), width);
-    let held = seek(table, width, code);
+    let n = count(table.len(), most, width);
+    let held = seek(table, most, width, code);
     if held < n {
         return Slot::Held(held);
     }
-    let free = seek(table, width, 0);
+    let free = seek(table, most, width, 0);
     if free < n {
         return Slot::Free(free);
     }
@@ -55,11 +58,11 @@ pub fn find(table: &[u64], width: usize, code: u64) -> Slot
 }
 
 // Zeroes every slot; the words behind the slots stay.
-pub fn clear(table: &mut [u64], width: usize)
+pub fn clear(table: &mut [u64], most: usize, width: usize)
     requires { ⌜ 0 < width ⌝ }
-    ensures { λ _. ⌜ now (table .exit) ≡ cleared width (now (table .entry)) ⌝ }
+    ensures { λ _. ⌜ now (table .exit) ≡ cleared most width (now (table .entry)) ⌝ }
 {
-    let n = count(table.len(), width);
+    let n = count(table.len(), most, width);
     let end = width * n;
     let mut i = 0;
     while i < end {

@@ -7,6 +7,7 @@ use lib.ListN.{getD}
 use lib.Bits.{bitOr}
 use lib.Dec.{leb, ltb}
 use Rattle.wire.specs.Number.{word32}
+use Rattle.slots.specs.Layout.{Landed, landed}
 use Rattle.ladder.specs.Message.{depth}
 use Rattle.ladder.specs.Sides.{better, noRow}
 use Rattle.ladder.specs.Walk.{Book}
@@ -40,15 +41,7 @@ lowsOf (suc i) s = bitOr (lowsOf i s) (bitOr (getD s i noRow .price) (getD s i n
 unfoldable pub soundWords : ℕ → List Row → Bool
 soundWords n s = leb (usedOf depth s) n && ltb (lowsOf depth s) word32
 
--- an answer, and the words afterwards
-pub record Met : Type 0 where
-  pub answer : ℕ
-  pub words : List ℕ
-
-abbrev pub met : ℕ → List ℕ → Met
-met answer words = record { answer = answer; words = words }
-
 -- a book's words after a walk: 16 and as they were, or 0 and all of them written
-abbrev pub settled : ℕ → Option Book → List ℕ → Met
-settled c none w = met 16 w
-settled c (some b) w = met 0 (wordsOf c b)
+abbrev pub settled : ℕ → Option Book → List ℕ → Landed
+settled c none w = landed 16 w
+settled c (some b) w = landed 0 (wordsOf c b)

@@ -5,9 +5,9 @@ use mathlib.Core.List.{List, _++_}
 use lib.ListN.{length, take}
 use lib.IntN.{subℕ}
 use Rattle.wire.specs.Number.{bias}
-use Rattle.slots.specs.Slots.{slotsOf, slotCount}
+use Rattle.slots.specs.Layout.{countIn, slotsIn}
+use Rattle.books.specs.Table.{books}
 use Rattle.ladder.specs.Message.{depth}
-use Rattle.ladder.specs.Words.{bookWidth}
 use Rattle.ladder.specs.declared.Row.{Row}
 use Rattle.feed.specs.Program.{tableWords, Line, lines, Printed}
 
@@ -28,7 +28,7 @@ abbrev pub bookRoom : ℕ
 bookRoom = 2 * sideRoom
 
 abbrev pub slots : ℕ
-slots = slotCount bookWidth tableWords
+slots = countIn books tableWords
 
 abbrev pub booksRoom : ℕ
 booksRoom = bookRoom * slots
@@ -48,7 +48,7 @@ lineOf code side rank r = record { code = code; side = side; rank = rank; price 
 
 -- what is printed of a table, a last answer and the units accepted
 abbrev pub shown : List ℕ → ℕ → ℕ → Printed
-shown table answer units = record { rows = lines (slotsOf bookWidth table); answer = answer; units = units }
+shown table answer units = record { rows = lines (slotsIn books table); answer = answer; units = units }
 
 -- a text of at most `room` bytes stands at `at`, behind what stood before it; it ends at `r`
 pub record Put (words : List ℕ) (room at : ℕ) (old new : List ℕ) (r : ℕ) : Type 0 where

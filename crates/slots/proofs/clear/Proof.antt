@@ -5,10 +5,10 @@ use Rattle.slots.proofs.clear.Statement.{statement}
 use Rattle.slots.proofs.clear.Tie as tie
 
 abbrev Inv-loop : tie.InvT-loop
-Inv-loop table₀ width n end i₀ table i = Zeroed table₀ end table i
+Inv-loop table₀ most width n end i₀ table i = Zeroed table₀ end table i
 
 abbrev μ-loop : tie.MeasureT-loop
-μ-loop table₀ width n end i₀ table i = end - i
+μ-loop table₀ most width n end i₀ table i = end - i
 
 pub clear-spec : {M : Type 1} → statement M
 clear-spec =

@@ -5,10 +5,10 @@ use Rattle.slots.proofs.seek.Statement.{statement}
 use Rattle.slots.proofs.seek.Tie as tie
 
 abbrev Inv-loop : tie.InvT-loop
-Inv-loop table width code n k₀ at₀ k at = Seeking table width code n k at
+Inv-loop table most width code n k₀ at₀ k at = Seeking table most width code n k at
 
 abbrev μ-loop : tie.MeasureT-loop
-μ-loop table width code n k₀ at₀ k at = n - k
+μ-loop table most width code n k₀ at₀ k at = n - k
 
 pub seek-spec : {M : Type 1} → statement M
 seek-spec =
