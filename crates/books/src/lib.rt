@@ -11,7 +11,8 @@ ghost use Rattle.ladder.specs.Words.{bookWidth, rowWidth, sideWidth, rowOf};
 ghost use Rattle.wire.specs.Number.{word32};
 ghost use Rattle.books.specs.Table.{books, placeIn, block as blockOf};
 ghost use Rattle.books.specs.Turns.{startRows, startCounts, bookTurn};
-ghost use Rattle.books.specs.Reading.{rowRefused, rowOfSide, rowOfBook, readRow};
+ghost use Rattle.books.specs.Reading.{rowRefused, rowOfSide, rowOfBook};
+ghost use Rattle.books.specs.Contracts.{RowSays};
 use ladder::BOOK_WORDS;
 use ladder::DEPTH;
 use ladder::Row;
@@ -228,7 +229,7 @@ fn row_in_slot(table: &[u64], k: usize, side: u64, rank: u64) -> RowRead
 
 // A row by code, side and rank: 15, 4, 18, 4 or 0, in that order. It writes nothing.
 pub fn read_row(table: &[u64], code: u64, side: u64, rank: u64) -> RowRead
-    ensures { λ r. ⌜ r ≡ readRow code side rank (now (table .entry)) ⌝ }
+    ensures { λ r. ⌜ RowSays (now (table .entry)) code side rank r ⌝ }
 {
     if is_asked(code, side, rank) {
         let slot = slots::find(table, MOST, BOOK_WORDS, code);

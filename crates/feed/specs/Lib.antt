@@ -5,3 +5,4 @@ pub mod Answers
 pub mod Steps
 pub mod Program
 pub mod Code
+pub mod Contracts

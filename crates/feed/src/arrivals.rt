@@ -14,6 +14,7 @@ ghost use Prim.Native.Nat.{_≤_};
 ghost use Rattle.feed.specs.Messages.{kind as kindIn, wrongSize};
 ghost use Rattle.feed.specs.Feeds.{inPhase, wholeIs};
 ghost use Rattle.feed.specs.Events.{Arrive, Cut};
+ghost use Rattle.feed.specs.Contracts.{ArriveSays, CutSays};
 ghost use Rattle.feed.specs.Answers.{lastSeqNum};
 ghost use Rattle.feed.specs.Steps.{advanced as advancedAt, counted, accepted, lent, stateOf, outOf, outcome};
 ghost use Rattle.feed.specs.Code.Judging.{answered, onTables};
@@ -60,7 +61,7 @@ impl Feed {
         message: &[u8],
         time: u64,
     ) -> Given
-        ensures { λ r. ⌜ outOf r (lent (now (table .exit))) ≡ outcome (stateOf self (lent (now (table .entry)))) (Cut seq internal (now (message .entry)) time) ⌝ }
+        ensures { λ r. ⌜ CutSays self (now (table .entry)) seq internal (now (message .entry)) time r (now (table .exit)) ⌝ }
     {
         let kind = kind_in(message);
         let verdict = self.verdict(kind, seq, internal, message, time);
@@ -75,7 +76,7 @@ impl Feed {
 
     // An arrival of bytes.
     pub fn arrive(self, table: &mut [u64], bytes: &[u8], time: u64) -> Given
-        ensures { λ r. ⌜ outOf r (lent (now (table .exit))) ≡ outcome (stateOf self (lent (now (table .entry)))) (Arrive (now (bytes .entry)) time) ⌝ }
+        ensures { λ r. ⌜ ArriveSays self (now (table .entry)) (now (bytes .entry)) time r (now (table .exit)) ⌝ }
     {
         let front = Cursor { at: 0 };
         let unit = front.read(bytes);

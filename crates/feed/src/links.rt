@@ -9,6 +9,7 @@ use super::badges::is_limit;
 ghost use mathlib.Core.Path.{_≡_};
 ghost use Rattle.feed.specs.Feeds.{newFeed, newGiven, badgeOf};
 ghost use Rattle.feed.specs.Events.{Tables, Connect, Linked};
+ghost use Rattle.feed.specs.Contracts.{NewSays, ConnectSays, BadgeSays};
 ghost use Rattle.feed.specs.Answers.{lacksNeed};
 ghost use Rattle.feed.specs.Steps.{isFresh, outcome};
 
@@ -41,7 +42,7 @@ fn idle(limit: u64) -> Feed
 impl Feed {
     // A new feed with a silence limit: 19 where the limit is outside 1 to 600,000.
     pub fn new(limit: u64) -> Given
-        ensures { λ r. ⌜ r ≡ newGiven limit ⌝ }
+        ensures { λ r. ⌜ NewSays limit r ⌝ }
     {
         if is_limit(limit) {
             return idle(limit).kept(0);
@@ -66,7 +67,7 @@ impl Feed {
 
     // A connect, fresh or resuming.
     pub fn connect(self, link: Link, time: u64) -> Given
-        ensures { λ r. ⌜ ((x : Tables) → record { given = r; tables = x } ≡ outcome (record { feed = self; tables = x }) (Connect link time)) ⌝ }
+        ensures { λ r. ⌜ ConnectSays self link time r ⌝ }
     {
         if time < self.heard {
             return self.kept(10);
@@ -83,7 +84,7 @@ impl Feed {
 
     // The badge at a time.
     pub fn badge(self, time: u64) -> Badge
-        ensures { λ r. ⌜ r ≡ badgeOf self time ⌝ }
+        ensures { λ r. ⌜ BadgeSays self time r ⌝ }
     {
         let phase = self.phase;
         badge_at(phase, self.heard, self.limit, time)

@@ -85,12 +85,6 @@ exactly s e n = (tells (D.rowsFor s e) n, told (D.rowsFor s e) n)
 pub refused : D.Refused
 refused = F.refused
 
-pub one : D.One
-one = F.one-outcome
-
-pub same : D.Same
-same A x a b p q = p ∙ sym q
-
 pub behind : D.Behind
 behind = A.pieces
 

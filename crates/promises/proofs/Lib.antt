@@ -13,3 +13,4 @@ pub mod GoodMorning
 pub mod Leaves
 pub mod Decisions
 pub mod Pieces
+pub mod Contracts

@@ -64,14 +64,6 @@ Exactly =
 abbrev pub Refused : Type 0
 Refused = (s : State) (e : Event) → accepted (answerOf s e) ≡ false → outcome s e ≡ refusal (answerOf s e) s
 
--- any two outcomes of a call are the same
-abbrev pub One : Type 0
-One = (s : State) (e : Event) (a b : Outcome) → a ≡ outcome s e → b ≡ outcome s e → a ≡ b
-
--- every public contract says that what is handed back, with the words after it, is one value x: any two that it allows are the same
-abbrev pub Same : Type 1
-Same = (A : Type 0) (x a b : A) → a ≡ x → b ≡ x → a ≡ b
-
 -- what is answered to a unit that has come whole does not hang on the bytes behind it (specs/Pieces: so a stream may come in any pieces)
 abbrev pub Behind : Type 0
 Behind = (s : State) (a b : List ℕ) (time : ℕ) → (unitOf a ≡ unit.More → ⊥) → outcome s (Arrive (a ++ b) time) ≡ outcome s (Arrive a time)

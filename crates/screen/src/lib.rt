@@ -1,11 +1,7 @@
 // The library by plain C calls, for the screens: numbers, structs of numbers by value, and slices as pointer and length.
-ghost use Prim.Native.Nat.{ℕ};
 ghost use mathlib.Core.Path.{_≡_};
-ghost use mathlib.Core.List.{List};
-ghost use Rattle.books.specs.Reading.{readRow};
-ghost use Rattle.feed.specs.Feeds.{newGiven, plainBadge};
-ghost use Rattle.screen.specs.Plain.{yes, bit, linkOf, feedOf, plainFeed, plainGiven, plainOut, plainRow};
-ghost use Rattle.screen.specs.Calls.{Connects, Arrives, ArrivesCut, handsBack};
+ghost use Rattle.screen.specs.Contracts.{NewSays, ConnectSays, ArriveSays, CutSays, BadgeSays, RowSays};
+ghost use Rattle.screen.specs.Plain.{yes, bit, linkOf, feedOf, plainFeed, plainGiven};
 use books::RowRead;
 use feed::Feed;
 use feed::Given;
@@ -123,7 +119,7 @@ fn plain_given(g: Given) -> MmdhGiven
 // A new feed with a silence limit in milliseconds: 19 outside 1 to 600,000.
 #[no_mangle]
 pub extern "C" fn mmdh_new(limit: u64) -> MmdhGiven
-    ensures { λ r. ⌜ r ≡ plainGiven (newGiven limit) ⌝ }
+    ensures { λ r. ⌜ NewSays limit r ⌝ }
 {
     plain_given(Feed::new(limit))
 }
@@ -131,7 +127,7 @@ pub extern "C" fn mmdh_new(limit: u64) -> MmdhGiven
 // A connect: fresh where `resuming` is 0, else resuming.
 #[no_mangle]
 pub extern "C" fn mmdh_connect(feed: MmdhFeed, resuming: u64, time: u64) -> MmdhGiven
-    ensures { λ r. ⌜ ((t : List ℕ) → plainOut r t ≡ handsBack feed t (Connects resuming time)) ⌝ }
+    ensures { λ r. ⌜ ConnectSays feed resuming time r ⌝ }
 {
     plain_given(feed_of(feed).connect(link_of(resuming), time))
 }
@@ -144,7 +140,7 @@ pub extern "C" fn mmdh_arrive(
     bytes: &[u8],
     time: u64,
 ) -> MmdhGiven
-    ensures { λ r. ⌜ plainOut r (now (table .exit)) ≡ handsBack feed (now (table .entry)) (Arrives (now (bytes .entry)) time) ⌝ }
+    ensures { λ r. ⌜ ArriveSays feed (now (table .entry)) (now (bytes .entry)) time r (now (table .exit)) ⌝ }
 {
     plain_given(feed_of(feed).arrive(table, bytes, time))
 }
@@ -159,7 +155,7 @@ pub extern "C" fn mmdh_arrive_cut(
     message: &[u8],
     time: u64,
 ) -> MmdhGiven
-    ensures { λ r. ⌜ plainOut r (now (table .exit)) ≡ handsBack feed (now (table .entry)) (ArrivesCut seq internal (now (message .entry)) time) ⌝ }
+    ensures { λ r. ⌜ CutSays feed (now (table .entry)) seq internal (now (message .entry)) time r (now (table .exit)) ⌝ }
 {
     plain_given(feed_of(feed).arrive_cut(table, seq, internal, message, time))
 }
@@ -167,7 +163,7 @@ pub extern "C" fn mmdh_arrive_cut(
 // A row by code, side and rank.
 #[no_mangle]
 pub extern "C" fn mmdh_read_row(table: &[u64], code: u64, side: u64, rank: u64) -> MmdhRow
-    ensures { λ r. ⌜ r ≡ plainRow (readRow code side rank (now (table .entry))) ⌝ }
+    ensures { λ r. ⌜ RowSays (now (table .entry)) code side rank r ⌝ }
 {
     let row = books::read_row(table, code, side, rank);
     MmdhRow {
@@ -181,7 +177,7 @@ pub extern "C" fn mmdh_read_row(table: &[u64], code: u64, side: u64, rank: u64) 
 // The badge at a time: 1 green, 2 filling, 0 stale.
 #[no_mangle]
 pub extern "C" fn mmdh_badge(phase: u64, heard: u64, limit: u64, time: u64) -> u64
-    ensures { λ r. ⌜ r ≡ plainBadge phase heard limit time ⌝ }
+    ensures { λ r. ⌜ BadgeSays phase heard limit time r ⌝ }
 {
     feed::badge_asked(phase, heard, limit, time)
 }

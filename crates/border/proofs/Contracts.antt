@@ -1,0 +1,52 @@
+-- The contracts of the C calls as the prover has them: they ask nothing, and any two outcomes that one of them allows are the same.
+-- To weaken a contract, or to leave it out, breaks one of these. Assumes nothing.
+use mathlib.Core.Path.{_≡_, sym, ap, _∙_}
+use mathlib.Core.List.{[]}
+use denote.Ref.{now}
+use Rattle.screen.specs.Plain.{PlainOut}
+use Rattle.screen.proofs.mmdh_new.Reads as new
+use Rattle.screen.proofs.mmdh_connect.Reads as connect
+use Rattle.screen.proofs.mmdh_arrive.Reads as arrive
+use Rattle.screen.proofs.mmdh_arrive_cut.Reads as arrive-cut
+use Rattle.screen.proofs.mmdh_badge.Reads as badge
+use Rattle.screen.proofs.mmdh_read_row.Reads as read-row
+
+-- nothing is asked of who calls
+pub new-asks : (κs : _) (a : _) → new.Asked κs a
+new-asks κs a = tt
+
+pub connect-asks : (κs : _) (a : _) → connect.Asked κs a
+connect-asks κs a = tt
+
+pub arrive-asks : (κs : _) (a : _) → arrive.Asked κs a
+arrive-asks κs a = tt
+
+pub arrive-cut-asks : (κs : _) (a : _) → arrive-cut.Asked κs a
+arrive-cut-asks κs a = tt
+
+pub badge-asks : (κs : _) (a : _) → badge.Asked κs a
+badge-asks κs a = tt
+
+pub read-row-asks : (κs : _) (a : _) → read-row.Asked κs a
+read-row-asks κs a = tt
+
+-- two outcomes are one: the numbers handed back, and where a table is lent every word of it
+pub new-one : (κs : _) (a : _) (r r′ : _) (x x′ : _) → new.Learnt κs a r x → new.Learnt κs a r′ x′ → r ≡ r′
+new-one κs a r r′ x x′ p q = p ∙ sym q
+
+pub connect-one : (κs : _) (a : _) (r r′ : _) (x x′ : _) → connect.Learnt κs a r x → connect.Learnt κs a r′ x′ → r ≡ r′
+connect-one κs a r r′ x x′ p q = ap (λ (o : PlainOut). o .given) (p [] ∙ sym (q []))
+
+pub arrive-one : (κs : _) (a : _) (r r′ : _) (x x′ : _) → arrive.Learnt κs a r x → arrive.Learnt κs a r′ x′
+    → (r ≡ r′) × (now (x .1 .0) ≡ now (x′ .1 .0))
+arrive-one κs a r r′ x x′ p q = (ap (λ (o : PlainOut). o .given) (p ∙ sym q), ap (λ (o : PlainOut). o .books) (p ∙ sym q))
+
+pub arrive-cut-one : (κs : _) (a : _) (r r′ : _) (x x′ : _) → arrive-cut.Learnt κs a r x → arrive-cut.Learnt κs a r′ x′
+    → (r ≡ r′) × (now (x .1 .0) ≡ now (x′ .1 .0))
+arrive-cut-one κs a r r′ x x′ p q = (ap (λ (o : PlainOut). o .given) (p ∙ sym q), ap (λ (o : PlainOut). o .books) (p ∙ sym q))
+
+pub badge-one : (κs : _) (a : _) (r r′ : _) (x x′ : _) → badge.Learnt κs a r x → badge.Learnt κs a r′ x′ → r ≡ r′
+badge-one κs a r r′ x x′ p q = p ∙ sym q
+
+pub read-row-one : (κs : _) (a : _) (r r′ : _) (x x′ : _) → read-row.Learnt κs a r x → read-row.Learnt κs a r′ x′ → r ≡ r′
+read-row-one κs a r r′ x x′ p q = p ∙ sym q

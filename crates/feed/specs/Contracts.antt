@@ -1,0 +1,30 @@
+-- What the public operations of a feed say, each of any feed, any table, any bytes and any clock reading: their contracts, by name. Assumes nothing.
+use Prim.Native.Nat.{ℕ}
+use mathlib.Core.Path.{_≡_}
+use mathlib.Core.List.{List}
+use Rattle.feed.specs.Feeds.{newGiven, badgeOf}
+use Rattle.feed.specs.Events.{Tables, Connect, Arrive, Cut}
+use Rattle.feed.specs.Steps.{lent, stateOf, outOf, outcome}
+use Rattle.feed.specs.declared.Feed.{Feed}
+use Rattle.feed.specs.declared.Given.{Given}
+use Rattle.feed.specs.declared.Link.{Link}
+use Rattle.feed.specs.declared.Badge.{Badge}
+
+-- Feed::new
+abbrev pub NewSays : ℕ → Given → Type 0
+NewSays limit r = r ≡ newGiven limit
+
+-- Feed::connect: it is lent no table, so it is said with every one
+abbrev pub ConnectSays : Feed → Link → ℕ → Given → Type 0
+ConnectSays f link time r = (x : Tables) → outOf r x ≡ outcome (stateOf f x) (Connect link time)
+
+-- Feed::arrive, and Feed::arrive_cut: answer, bytes used, feed, and every word of the books after it
+abbrev pub ArriveSays : Feed → List ℕ → List ℕ → ℕ → Given → List ℕ → Type 0
+ArriveSays f books bytes time r after = outOf r (lent after) ≡ outcome (stateOf f (lent books)) (Arrive bytes time)
+
+abbrev pub CutSays : Feed → List ℕ → ℕ → ℕ → List ℕ → ℕ → Given → List ℕ → Type 0
+CutSays f books seq internal m time r after = outOf r (lent after) ≡ outcome (stateOf f (lent books)) (Cut seq internal m time)
+
+-- Feed::badge
+abbrev pub BadgeSays : Feed → ℕ → Badge → Type 0
+BadgeSays f time r = r ≡ badgeOf f time

@@ -1,0 +1,52 @@
+-- The contracts of the public operations as the prover has them: they ask nothing, and any two outcomes that one of them allows are the same.
+-- To weaken a contract, or to leave it out, breaks one of these. Assumes nothing.
+use mathlib.Core.Path.{_≡_, sym, ap, _∙_}
+use denote.Ref.{now}
+use Rattle.feed.specs.Events.{Tables}
+use Rattle.feed.specs.Steps.{Outcome}
+use Rattle.feed.specs.declared.Given.{Given}
+use Rattle.feed.proofs.Feed.new.Reads as new
+use Rattle.feed.proofs.Feed.connect.Reads as connect
+use Rattle.feed.proofs.Feed.arrive.Reads as arrive
+use Rattle.feed.proofs.Feed.arrive_cut.Reads as arrive-cut
+use Rattle.feed.proofs.Feed.badge.Reads as badge
+use Rattle.books.proofs.read_row.Reads as read-row
+use Rattle.promises.specs.Runs.{zeroed}
+
+-- nothing is asked of who calls
+pub new-asks : (κs : _) (a : _) → new.Asked κs a
+new-asks κs a = tt
+
+pub connect-asks : (κs : _) (a : _) → connect.Asked κs a
+connect-asks κs a = tt
+
+pub arrive-asks : (κs : _) (a : _) → arrive.Asked κs a
+arrive-asks κs a = tt
+
+pub arrive-cut-asks : (κs : _) (a : _) → arrive-cut.Asked κs a
+arrive-cut-asks κs a = tt
+
+pub badge-asks : (κs : _) (a : _) → badge.Asked κs a
+badge-asks κs a = tt
+
+pub read-row-asks : (κs : _) (a : _) → read-row.Asked κs a
+read-row-asks κs a = tt
+
+-- two outcomes are one: what is handed back, and where a table is lent every word of it
+pub new-one : (κs : _) (a : _) (r r′ : _) (x x′ : _) → new.Learnt κs a r x → new.Learnt κs a r′ x′ → r ≡ r′
+new-one κs a r r′ x x′ p q = p ∙ sym q
+
+pub connect-one : (κs : _) (a : _) (r r′ : _) (x x′ : _) → connect.Learnt κs a r x → connect.Learnt κs a r′ x′ → r ≡ r′
+connect-one κs a r r′ x x′ p q = ap (λ (o : Outcome). o .given) (p (zeroed 0) ∙ sym (q (zeroed 0)))
+
+pub arrive-one : (κs : _) (a : _) (r r′ : _) (x x′ : _) → arrive.Learnt κs a r x → arrive.Learnt κs a r′ x′ → (r ≡ r′) × (now (x .1 .0) ≡ now (x′ .1 .0))
+arrive-one κs a r r′ x x′ p q = (ap (λ (o : Outcome). o .given) (p ∙ sym q), ap (λ (o : Outcome). o .tables .books) (p ∙ sym q))
+
+pub arrive-cut-one : (κs : _) (a : _) (r r′ : _) (x x′ : _) → arrive-cut.Learnt κs a r x → arrive-cut.Learnt κs a r′ x′ → (r ≡ r′) × (now (x .1 .0) ≡ now (x′ .1 .0))
+arrive-cut-one κs a r r′ x x′ p q = (ap (λ (o : Outcome). o .given) (p ∙ sym q), ap (λ (o : Outcome). o .tables .books) (p ∙ sym q))
+
+pub badge-one : (κs : _) (a : _) (r r′ : _) (x x′ : _) → badge.Learnt κs a r x → badge.Learnt κs a r′ x′ → r ≡ r′
+badge-one κs a r r′ x x′ p q = p ∙ sym q
+
+pub read-row-one : (κs : _) (a : _) (r r′ : _) (x x′ : _) → read-row.Learnt κs a r x → read-row.Learnt κs a r′ x′ → r ≡ r′
+read-row-one κs a r r′ x x′ p q = p ∙ sym q

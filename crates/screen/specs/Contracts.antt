@@ -1,0 +1,34 @@
+-- What the C calls say, each of any numbers, any words, any bytes and any clock reading: their contracts, by name. Assumes nothing.
+use Prim.Native.Nat.{ℕ}
+use mathlib.Core.Path.{_≡_}
+use mathlib.Core.List.{List}
+use Rattle.books.specs.Reading.{readRow}
+use Rattle.feed.specs.Feeds.{newGiven, plainBadge}
+use Rattle.screen.specs.Plain.{plainGiven, plainOut, plainRow}
+use Rattle.screen.specs.Calls.{Connects, Arrives, ArrivesCut, handsBack}
+use Rattle.screen.specs.declared.MmdhFeed.{MmdhFeed}
+use Rattle.screen.specs.declared.MmdhGiven.{MmdhGiven}
+use Rattle.screen.specs.declared.MmdhRow.{MmdhRow}
+
+-- mmdh_new
+abbrev pub NewSays : ℕ → MmdhGiven → Type 0
+NewSays limit r = r ≡ plainGiven (newGiven limit)
+
+-- mmdh_connect: it is lent no words, so it is said with all of them
+abbrev pub ConnectSays : MmdhFeed → ℕ → ℕ → MmdhGiven → Type 0
+ConnectSays feed resuming time r = (t : List ℕ) → plainOut r t ≡ handsBack feed t (Connects resuming time)
+
+-- mmdh_arrive, and mmdh_arrive_cut
+abbrev pub ArriveSays : MmdhFeed → List ℕ → List ℕ → ℕ → MmdhGiven → List ℕ → Type 0
+ArriveSays feed books bytes time r after = plainOut r after ≡ handsBack feed books (Arrives bytes time)
+
+abbrev pub CutSays : MmdhFeed → List ℕ → ℕ → ℕ → List ℕ → ℕ → MmdhGiven → List ℕ → Type 0
+CutSays feed books seq internal m time r after = plainOut r after ≡ handsBack feed books (ArrivesCut seq internal m time)
+
+-- mmdh_badge
+abbrev pub BadgeSays : ℕ → ℕ → ℕ → ℕ → ℕ → Type 0
+BadgeSays phase heard limit time r = r ≡ plainBadge phase heard limit time
+
+-- mmdh_read_row
+abbrev pub RowSays : List ℕ → ℕ → ℕ → ℕ → MmdhRow → Type 0
+RowSays t code side rank r = r ≡ plainRow (readRow code side rank t)
