@@ -5,6 +5,7 @@ use mathlib.Core.List.{List}
 use Rattle.feed.specs.Feeds.{newGiven, badgeOf}
 use Rattle.feed.specs.Events.{Tables, Connect, Arrive, Cut}
 use Rattle.feed.specs.Steps.{lent, stateOf, outOf, outcome}
+use Rattle.feed.specs.Reasons.{why}
 use Rattle.feed.specs.declared.Feed.{Feed}
 use Rattle.feed.specs.declared.Given.{Given}
 use Rattle.feed.specs.declared.Link.{Link}
@@ -28,3 +29,7 @@ CutSays f books seq internal m time r after = outOf r (lent after) ≡ outcome (
 -- Feed::badge
 abbrev pub BadgeSays : Feed → ℕ → Badge → Type 0
 BadgeSays f time r = r ≡ badgeOf f time
+
+-- Feed::why
+abbrev pub WhySays : Feed → ℕ → ℕ → Type 0
+WhySays f time r = r ≡ why (f .phase) (f .heard) (f .limit) time

@@ -5,4 +5,5 @@ pub mod Answers
 pub mod Steps
 pub mod Program
 pub mod Code
+pub mod Reasons
 pub mod Contracts

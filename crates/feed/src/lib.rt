@@ -5,12 +5,14 @@ mod changes;
 mod links;
 mod messages;
 mod phases;
+mod reasons;
 mod sessions;
 mod verdicts;
 
 pub use badges::badge_asked;
 pub use phases::phase_number;
 pub use phases::phase_of;
+pub use reasons::why_asked;
 
 // The phases, in the order in which they count from 0.
 pub enum Phase {

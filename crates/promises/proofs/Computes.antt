@@ -21,6 +21,7 @@ use Rattle.feed.specs.Events as feed-Events
 use Rattle.feed.specs.Feeds as feed-Feeds
 use Rattle.feed.specs.Messages as feed-Messages
 use Rattle.feed.specs.Program as feed-Program
+use Rattle.feed.specs.Reasons as feed-Reasons
 use Rattle.feed.specs.Steps as feed-Steps
 use Rattle.promises.specs.Answering as promises-Answering
 use Rattle.promises.specs.Build as promises-Build
@@ -123,6 +124,10 @@ unfoldable feed-program : ℕ
 unfolding feed-Program.follow feed-Program.sideLines feed-Program.lines
 feed-program = 0
 
+unfoldable feed-reasons : ℕ
+unfolding feed-Reasons.why feed-Reasons.badgeBy
+feed-reasons = 0
+
 unfoldable feed-steps : ℕ
 unfolding feed-Steps.loggedOn feed-Steps.clearsOn feed-Steps.clears feed-Steps.tablesAfter feed-Steps.does feed-Steps.counted feed-Steps.taken feed-Steps.act feed-Steps.usedOf feed-Steps.handed feed-Steps.outcome
 feed-steps = 0
@@ -208,5 +213,5 @@ unfolding promises-Traps.traps promises-Traps.mornings promises-Traps.sameLines 
 promises-traps = 0
 
 unfoldable pub computes : ℕ
-unfolding bind ground-choice wire-number wire-units slots-layout slots-slots slots-turns ladder-code-arrays ladder-code-loading ladder-message ladder-sides ladder-walk ladder-words books-reading books-table feed-answers feed-code-judging feed-events feed-feeds feed-messages feed-program feed-steps promises-answering promises-build promises-checks promises-decisions promises-demands promises-desk promises-entries promises-goodmorning promises-leaves promises-ledger promises-mornings promises-phases promises-pieces promises-refusals promises-runs promises-section6 promises-sizes promises-statuses promises-tables promises-traps
+unfolding bind ground-choice wire-number wire-units slots-layout slots-slots slots-turns ladder-code-arrays ladder-code-loading ladder-message ladder-sides ladder-walk ladder-words books-reading books-table feed-answers feed-code-judging feed-events feed-feeds feed-messages feed-program feed-reasons feed-steps promises-answering promises-build promises-checks promises-decisions promises-demands promises-desk promises-entries promises-goodmorning promises-leaves promises-ledger promises-mornings promises-phases promises-pieces promises-refusals promises-runs promises-section6 promises-sizes promises-statuses promises-tables promises-traps
 computes = 0

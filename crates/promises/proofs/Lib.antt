@@ -14,3 +14,4 @@ pub mod Leaves
 pub mod Decisions
 pub mod Pieces
 pub mod Contracts
+pub mod Why

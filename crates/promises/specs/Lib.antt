@@ -19,3 +19,4 @@ pub mod Mornings
 pub mod Leaves
 pub mod Decisions
 pub mod Pieces
+pub mod Why
