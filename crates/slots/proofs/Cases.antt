@@ -46,7 +46,8 @@ pub seek-next : (t : List ℕ) (most w c n k at : ℕ) → Seeking t most w c n 
 seek-next t most w c n k at s l f = record { fits = omega (arith, room t most w c n k at s l) }
 
 -- one slot more
-pub seek-more : (t : List ℕ) (most w c n k at : ℕ) → Seeking t most w c n k at → k < n → (getD t at 0 ≡ c → ⊥) → Seeking t most w c n (k + 1) (at + w)
+pub seek-more : (t : List ℕ) (most w c n k at : ℕ) → Seeking t most w c n k at → k < n → (getD t at 0 ≡ c → ⊥)
+    → Seeking t most w c n (k + 1) (at + w)
 seek-more t most w c n k at s l ne =
     record {
       upto = omega arith;
@@ -71,7 +72,8 @@ seek-end t most w c n k at s l =
 pub ruleset seeks = (needs, seek-none, seek-in, seek-bytes, seek-next, seek-more, seek-here, seek-end)
 
 -- the code is found
-pub find-held : (t : List ℕ) (most w c n k : ℕ) → n ≡ slotCount most w (length t) → k ≡ lowest c (slotsOf most w t) → k < n → Held k ≡ place c (slotsOf most w t)
+pub find-held : (t : List ℕ) (most w c n k : ℕ) → n ≡ slotCount most w (length t) → k ≡ lowest c (slotsOf most w t) → k < n
+    → Held k ≡ place c (slotsOf most w t)
 find-held t most w c n k e f l = ap Held f ∙ sym (place-held c (slotsOf most w t) (rw (length-blocks, ← f, ← e) l))
 
 -- it is not, and a slot is free
@@ -110,7 +112,8 @@ zero-more t₀ t n i z l =
     record { so-far = rw (z .so-far) (fill-more i 0 t₀ (omega arith)); upto = omega arith; fits = z .fits; same = length-set t i 0 ∙ z .same }
 
 -- all of them
-pub zero-all : (t₀ t : List ℕ) (most w n i : ℕ) → Zeroed t₀ (w * n) t i → w * n ≤ i → n ≡ slotCount most w (length t₀) → t ≡ cleared most w t₀
+pub zero-all : (t₀ t : List ℕ) (most w n i : ℕ) → Zeroed t₀ (w * n) t i → w * n ≤ i → n ≡ slotCount most w (length t₀)
+    → t ≡ cleared most w t₀
 unfolding cleared
 zero-all t₀ t most w n i z l e =
     let p : i ≡ w * n = let u = z .upto in omega arith in

@@ -7,7 +7,6 @@ use mathlib.Core.Bool.{Bool, true, false, cond}
 use mathlib.Core.List.{List}
 use mathlib.Core.Option.{Option, none, some}
 use lib.Dec.{eqb}
-use Rattle.ground.proofs.Bools.{split}
 use Rattle.slots.specs.Slots.{place}
 use Rattle.slots.specs.Layout.{Layout, slotsIn, block, placeIn, unsoundAt, valueAt, valueIn, written, answer, stepped, turn}
 use Rattle.slots.specs.Lawful.{Lawful}
@@ -16,6 +15,7 @@ use Rattle.slots.specs.declared.Slot.the-variants.{Held, Free, Full}
 use Rattle.slots.proofs.Blocks.{slots-comm}
 use Rattle.slots.proofs.Lookup.{codeAt, held-code, free-code, place-same}
 use Rattle.slots.proofs.Frame.{Lands}
+use Rattle.slots.proofs.Steps.{turned}
 use Rattle.slots.proofs.Values.{lands-in, wrote, wrote-slots, wrote-block, held-as, either}
 
 -- a code finds the same place, with the same words if it has a slot
@@ -78,8 +78,7 @@ module _ {A : Type 0} (L : Layout A) {Fit Well : A → Type 0} (laws : Lawful L 
   turn-either : (P : List ℕ → Type 0) (x : ℕ) (step : A → Option A) → P t
       → ((k : ℕ) (a : A) → Lands x (slotsIn L t) k → P (wrote L x k a t)) → P (turn L x step t .words)
   unfolding stepped
-  turn-either P x step same new =
-      split P (eqb (answer L x step t) 0) _ t (λ e. either L laws P x t (step (valueIn L x t)) same (λ k a f q. new k a f)) (λ e. same)
+  turn-either P x step same new = turned L x step t P (either L laws P x t (step (valueIn L x t)) same (λ k a f q. new k a f)) same
 
   sees-one : Sees L d one t
   sees-one = turn-either (λ u. Sees L d u t) c g (record { found = refl; words = λ k e. refl }) wrote-one

@@ -10,6 +10,7 @@ use lib.Dec.{eqb}
 use lib.ListN.{length, drop}
 use borrow.Author.Tests.{eqb-true, eqb-false}
 use Rattle.ground.specs.Choice.{first}
+use Rattle.ground.proofs.Bools.{split}
 use Rattle.slots.specs.Slots.{codeOf}
 use Rattle.slots.specs.Layout.{Layout, noneFree, misfit, orAsItWas, countIn, slotsIn, block, placeIn, unsoundAt, valueIn, written}
 use Rattle.slots.specs.Layout.{answer, stepped, turn, turns, AllTaken, valueAfter, valuesAfter}
@@ -56,6 +57,10 @@ module _ {A : Type 0} (L : Layout A) (c : ℕ) (step : A → Option A) (t : List
   pub zero-steps : answer L c step t ≡ 0 → turn L c step t .words ≡ after
   zero-steps e = rw e
 
+  -- answered 0 or not, what holds of the table before it and after it holds then
+  pub turned : (P : List ℕ → Type 0) → P after → P t → P (turn L c step t .words)
+  turned P new same = split P (eqb (answer L c step t) 0) after t (λ e. new) (λ e. same)
+
   -- where the code's own value is what was made of it and all others stay, each is what the message makes of it with no table
   pub each-value : (u : List ℕ) → made ≡ some (valueIn L c u) → ((d : ℕ) → (c ≡ d → ⊥) → (d ≡ 0 → ⊥) → valueIn L d u ≡ valueIn L d t)
       → (d : ℕ) → (d ≡ 0 → ⊥) → valueIn L d u ≡ valueAfter d c step (valueIn L d t)
@@ -70,7 +75,8 @@ module _ {A : Type 0} (L : Layout A) (c : ℕ) (step : A → Option A) (t : List
 
   module _ {Fit Well : A → Type 0} (laws : Lawful L Fit Well) where
     -- the table is as it was, or has one value written to the slot that the code has or takes
-    either-way : (P : List ℕ → Type 0) → P t → ((k : ℕ) (a : A) → Lands c (slotsIn L t) k → made ≡ some a → P (wrote L c k a t)) → P after
+    either-way : (P : List ℕ → Type 0) → P t → ((k : ℕ) (a : A) → Lands c (slotsIn L t) k → made ≡ some a → P (wrote L c k a t))
+        → P after
     unfolding stepped
     either-way P = either L laws P c t made
 

@@ -1,5 +1,5 @@
--- A table of anything that has a code, by the layout of its slots: where a code's value is, and what a message makes of it (document 01, "The book table",
--- says it of books). Assumes nothing.
+-- A table of anything that has a code, by the layout of its slots: where a code's value is, and what a message makes of it.
+-- (Document 01 says it of books, in "The book table".) Assumes nothing.
 use Prim.Native.Nat.{ℕ}
 use mathlib.Core.Path.{_≡_}
 use mathlib.Core.Bool.{Bool, true, false, cond, not}
