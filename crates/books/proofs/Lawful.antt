@@ -3,7 +3,7 @@ use native.Mathlib.Omega.{arith}
 use mathlib.Core.Path.{refl}
 use Rattle.ground.specs.Choice.{all}
 use Rattle.slots.specs.Slots.{blocks}
-use Rattle.slots.specs.Lawful.{Lawful}
+use Rattle.slots.proofs.Lawful.{Lawful}
 use Rattle.ladder.specs.Words.{rowsFrom, bestFirst, bounded, zeroRow, soundSide, sound, SoundBook}
 use Rattle.ladder.proofs.Walks.{Few}
 use Rattle.ladder.proofs.Writes.{book-words}

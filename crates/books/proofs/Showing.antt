@@ -29,7 +29,8 @@ use Rattle.ladder.proofs.Walks.{side-known, side-unknown}
 use Rattle.ladder.proofs.Loads.{rows-ten, row-is}
 use Rattle.ladder.proofs.Tells.{few-bids, few-offers, bid-bounds, offer-bounds}
 use Rattle.books.specs.Table.{books, placeIn, block}
-use Rattle.books.specs.Reading.{noBook, readAnswer, rowRefused, rowShown, readRow, rowOfSide, rowOfBook}
+use Rattle.books.specs.Reading.{noBook, readAnswer, rowRefused, rowShown, readRow}
+use Rattle.books.specs.Code.Rows.{rowOfSide, rowOfBook}
 use Rattle.books.specs.declared.RowRead.{RowRead}
 use Rattle.books.proofs.Turning.{turning}
 

@@ -14,7 +14,7 @@ use borrow.Rule.Slice.PartMut.{putMid}
 use Rattle.ground.specs.Choice.{first, all}
 use Rattle.wire.specs.Number.{field}
 use Rattle.slots.specs.Layout.{landed, countIn, answer, turn}
-use Rattle.slots.specs.Turns.{ready, startOf, settledIn, slotTurn, within, placeTurn}
+use Rattle.slots.specs.Code.Turns.{ready, startOf, settledIn, slotTurn, within, placeTurn}
 use Rattle.slots.proofs.Turning as slotted
 use Rattle.slots.proofs.Turning.{slotting, turn-is}
 use Rattle.ladder.specs.Message.{securityCode, noEntries, entriesFrom, listedCode, listedEntry, listedBook}
@@ -28,7 +28,7 @@ use Rattle.ladder.specs.declared.Row.{Row}
 use Rattle.ladder.proofs.Walks.{empty-sides}
 use Rattle.ladder.proofs.Tells.{sides-padded}
 use Rattle.books.specs.Table.{books, placeIn, block, hasEntries, unsound, noSlot, misfits, bookAnswer, booksAfter}
-use Rattle.books.specs.Turns.{startRows, startCounts, bookTurn}
+use Rattle.books.specs.Code.Turns.{startRows, startCounts, bookTurn}
 
 pub long-part : (m : List ℕ) → 12 ≤ length m → take (length m - 12) (drop 12 m) ≡ drop 12 m
 long-part m h = take-all (length m - 12) (drop 12 m) (rw length-drop (omega arith))

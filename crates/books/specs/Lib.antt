@@ -1,4 +1,4 @@
 pub mod Table
-pub mod Turns
 pub mod Reading
 pub mod Contracts
+pub mod Code

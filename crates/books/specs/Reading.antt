@@ -52,13 +52,3 @@ rowShown r = record { answer = 0; price = subℕ (r .price) bias; quantity = r .
 unfoldable pub readRow : ℕ → ℕ → ℕ → List ℕ → RowRead
 readRow c side rank t =
     cond (eqb (readAnswer c side rank t) 0) (rowShown (rowAt (sideIn c side t) rank)) (rowRefused (readAnswer c side rank t))
-
--- the same out of a slot's words, as the code goes about it: of a side of n rows from a word on, and of a book
-unfoldable pub rowOfSide : ℕ → ℕ → ℕ → List ℕ → RowRead
-rowOfSide base n rank w = cond (ltb n rank) (rowRefused 4) (rowShown (rowOf (drop (base + rowWidth * (rank - 1)) w)))
-
-unfoldable pub rowOfBook : ℕ → ℕ → List ℕ → RowRead
-rowOfBook side rank w =
-    cond (sound w)
-    (cond (eqb side bidSide) (rowOfSide bidsAt (bidCount w) rank w) (rowOfSide offersAt (offerCount w) rank w))
-    (rowRefused 18)

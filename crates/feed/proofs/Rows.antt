@@ -22,7 +22,7 @@ use Rattle.wire.proofs.Unit as the-unit
 use Rattle.wire.proofs.Fronts.{unit-fits, message-length}
 use Rattle.slots.specs.Layout.{Landed, landed, clearedIn}
 use Rattle.books.specs.Table.{books, unsound, noSlot, misfits, bookAnswer, booksAfter}
-use Rattle.books.specs.Turns.{bookTurn}
+use Rattle.books.specs.Code.Turns.{bookTurn}
 use Rattle.feed.specs.Messages.{kindOf, onMarket, market, book, wrongSize, statusOf, listed}
 use Rattle.feed.specs.Feeds.{deaf, inPhase, nextIs, internalIs, heardAt, wholeIs, freshIs}
 use Rattle.feed.specs.Events.{Tables, Event, Connect, Arrive, Cut, timeOf, News, Linked, Message, cutFrom, news, onMessage, newsSize, offered}

@@ -7,7 +7,8 @@ use native.Mathlib.Omega.{arith}
 use lib.ListN.{length, take, getD, set, length-set, length-append}
 use lib.Seq.{take-all}
 use borrow.Author.Needs.{needs}
-use Rattle.slots.specs.Slots.{flat, overlay}
+use Rattle.slots.specs.Slots.{flat}
+use Rattle.slots.specs.Code.Overlay.{overlay}
 use Rattle.slots.proofs.Overlay.{length-overlay, length-flat, sets-overlay, overlay-nil, overlay-join, overlay-whole, overlay-more}
 use Rattle.ladder.specs.Sides.{noRow}
 use Rattle.ladder.specs.Walk.{Book}

@@ -4,15 +4,16 @@ use mathlib.Core.Option.{bind}
 use Rattle.ground.specs.Choice as ground-Choice
 use Rattle.wire.specs.Number as wire-Number
 use Rattle.wire.specs.Units as wire-Units
+use Rattle.slots.specs.Code.Turns as slots-Code-Turns
 use Rattle.slots.specs.Layout as slots-Layout
 use Rattle.slots.specs.Slots as slots-Slots
-use Rattle.slots.specs.Turns as slots-Turns
 use Rattle.ladder.specs.Code.Arrays as ladder-Code-Arrays
 use Rattle.ladder.specs.Code.Loading as ladder-Code-Loading
 use Rattle.ladder.specs.Message as ladder-Message
 use Rattle.ladder.specs.Sides as ladder-Sides
 use Rattle.ladder.specs.Walk as ladder-Walk
 use Rattle.ladder.specs.Words as ladder-Words
+use Rattle.books.specs.Code.Rows as books-Code-Rows
 use Rattle.books.specs.Reading as books-Reading
 use Rattle.books.specs.Table as books-Table
 use Rattle.feed.specs.Answers as feed-Answers
@@ -56,6 +57,10 @@ unfoldable wire-units : ℕ
 unfolding wire-Units.unitOf
 wire-units = 0
 
+unfoldable slots-code-turns : ℕ
+unfolding slots-Code-Turns.slotTurn slots-Code-Turns.placeTurn
+slots-code-turns = 0
+
 unfoldable slots-layout : ℕ
 unfolding slots-Layout.noneFree slots-Layout.misfit slots-Layout.orAsItWas slots-Layout.unsoundAt slots-Layout.valueAt slots-Layout.written slots-Layout.answer slots-Layout.stepped slots-Layout.withCode slots-Layout.turns slots-Layout.valueAfter slots-Layout.valuesAfter
 slots-layout = 0
@@ -63,10 +68,6 @@ slots-layout = 0
 unfoldable slots-slots : ℕ
 unfolding slots-Slots.blocks slots-Slots.lowest slots-Slots.place slots-Slots.flat slots-Slots.cleared
 slots-slots = 0
-
-unfoldable slots-turns : ℕ
-unfolding slots-Turns.slotTurn slots-Turns.placeTurn
-slots-turns = 0
 
 unfoldable ladder-code-arrays : ℕ
 unfolding ladder-Code-Arrays.fitsAt ladder-Code-Arrays.tenAfter ladder-Code-Arrays.countAfter
@@ -92,8 +93,12 @@ unfoldable ladder-words : ℕ
 unfolding ladder-Words.rowsFrom ladder-Words.noRows ladder-Words.sideWords ladder-Words.wordsOf ladder-Words.bestFirst ladder-Words.bounded ladder-Words.zeroRow ladder-Words.soundSide ladder-Words.sound
 ladder-words = 0
 
+unfoldable books-code-rows : ℕ
+unfolding books-Code-Rows.rowOfSide books-Code-Rows.rowOfBook
+books-code-rows = 0
+
 unfoldable books-reading : ℕ
-unfolding books-Reading.noBook books-Reading.readAnswer books-Reading.readRow books-Reading.rowOfSide books-Reading.rowOfBook
+unfolding books-Reading.noBook books-Reading.readAnswer books-Reading.readRow
 books-reading = 0
 
 unfoldable books-table : ℕ
@@ -213,5 +218,5 @@ unfolding promises-Traps.traps promises-Traps.mornings promises-Traps.sameLines 
 promises-traps = 0
 
 unfoldable pub computes : ℕ
-unfolding bind ground-choice wire-number wire-units slots-layout slots-slots slots-turns ladder-code-arrays ladder-code-loading ladder-message ladder-sides ladder-walk ladder-words books-reading books-table feed-answers feed-code-judging feed-events feed-feeds feed-messages feed-program feed-reasons feed-steps promises-answering promises-build promises-checks promises-decisions promises-demands promises-desk promises-entries promises-goodmorning promises-leaves promises-ledger promises-mornings promises-phases promises-pieces promises-refusals promises-runs promises-section6 promises-sizes promises-statuses promises-tables promises-traps
+unfolding bind ground-choice wire-number wire-units slots-code-turns slots-layout slots-slots ladder-code-arrays ladder-code-loading ladder-message ladder-sides ladder-walk ladder-words books-code-rows books-reading books-table feed-answers feed-code-judging feed-events feed-feeds feed-messages feed-program feed-reasons feed-steps promises-answering promises-build promises-checks promises-decisions promises-demands promises-desk promises-entries promises-goodmorning promises-leaves promises-ledger promises-mornings promises-phases promises-pieces promises-refusals promises-runs promises-section6 promises-sizes promises-statuses promises-tables promises-traps
 computes = 0

@@ -16,7 +16,7 @@ use borrow.Author.Tests.{eqb-true, eq-eqb}
 use Rattle.ground.specs.Choice.{oneOf}
 use Rattle.slots.specs.Slots.{codeOf, lowest}
 use Rattle.slots.specs.Layout.{Layout, noneFree, misfit, countIn, slotsIn, clearedIn, placeIn, valueIn, written, stepped, withCode}
-use Rattle.slots.specs.Lawful.{Lawful}
+use Rattle.slots.proofs.Lawful.{Lawful}
 use Rattle.slots.specs.declared.Slot.{Slot}
 use Rattle.slots.specs.declared.Slot.the-variants.{Held, Free, Full}
 use Rattle.slots.proofs.Lookup.{codeAt, free-is, full-is, held-code, free-code, lowest-before}

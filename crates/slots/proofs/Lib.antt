@@ -13,3 +13,4 @@ pub mod Ours
 pub mod Codes
 pub mod Turning
 pub mod Cases
+pub mod Lawful

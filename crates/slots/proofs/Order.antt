@@ -9,7 +9,7 @@ use mathlib.Core.Option.{Option, none, some}
 use lib.Dec.{eqb}
 use Rattle.slots.specs.Slots.{place}
 use Rattle.slots.specs.Layout.{Layout, slotsIn, block, placeIn, unsoundAt, valueAt, valueIn, written, answer, stepped, turn}
-use Rattle.slots.specs.Lawful.{Lawful}
+use Rattle.slots.proofs.Lawful.{Lawful}
 use Rattle.slots.specs.declared.Slot.{Slot}
 use Rattle.slots.specs.declared.Slot.the-variants.{Held, Free, Full}
 use Rattle.slots.proofs.Blocks.{slots-comm}

@@ -8,7 +8,7 @@ use mathlib.Core.Option.{Option}
 use lib.ListN.{length, drop, replicate, length-replicate, replicate-append-replicate}
 use Rattle.slots.specs.Slots.{cleared}
 use Rattle.slots.specs.Layout.{Layout, countIn, clearedIn, stepped}
-use Rattle.slots.specs.Lawful.{Lawful}
+use Rattle.slots.proofs.Lawful.{Lawful}
 use Rattle.slots.proofs.Blocks.{slots-fit}
 use Rattle.slots.proofs.Steps.{stepped-length, stepped-tail}
 

@@ -7,7 +7,8 @@ use native.Mathlib.Numerals.{add-one}
 use native.Mathlib.Omega.{arith}
 use lib.ListN.{length, take, drop, getD, length-append, length-take, length-drop, take-append-drop, drop-of-length-le}
 use lib.Seq.{drop-drop, take-at, drop-at, length-take-le, sets, sets-eq, take-suc}
-use Rattle.slots.specs.Slots.{blocks, put, flat, overlay}
+use Rattle.slots.specs.Slots.{blocks, put, flat}
+use Rattle.slots.specs.Code.Overlay.{overlay}
 use Rattle.slots.proofs.Blocks.{blocks-cons}
 
 -- the words keep their number

@@ -14,7 +14,7 @@ use Rattle.ground.proofs.Bools.{split}
 use Rattle.slots.specs.Slots.{codeOf}
 use Rattle.slots.specs.Layout.{Layout, noneFree, misfit, orAsItWas, countIn, slotsIn, block, placeIn, unsoundAt, valueIn, written}
 use Rattle.slots.specs.Layout.{answer, stepped, turn, turns, AllTaken, valueAfter, valuesAfter}
-use Rattle.slots.specs.Lawful.{Lawful}
+use Rattle.slots.proofs.Lawful.{Lawful}
 use Rattle.slots.specs.declared.Slot.{Slot}
 use Rattle.slots.specs.declared.Slot.the-variants.{Held, Free, Full}
 use Rattle.slots.proofs.Frame.{Lands}

@@ -12,7 +12,7 @@ use Rattle.ground.specs.Choice.{first}
 use Rattle.slots.specs.Slots.{slotCount, slotsOf, place}
 use Rattle.slots.specs.Layout.{Layout, Landed, landed, noneFree, misfit, countIn, block, placeIn, unsoundAt, valueAt, written}
 use Rattle.slots.specs.Layout.{answer, stepped, turn}
-use Rattle.slots.specs.Turns.{ready, settledIn, slotTurn, within, placeTurn}
+use Rattle.slots.specs.Code.Turns.{ready, settledIn, slotTurn, within, placeTurn}
 use Rattle.slots.specs.declared.Slot.{Slot}
 use Rattle.slots.specs.declared.Slot.the-variants.{Held, Free, Full}
 use Rattle.slots.proofs.Blocks.{block-at, put-same}

@@ -16,7 +16,7 @@ use Rattle.ground.proofs.Bools.{join, split}
 use Rattle.ground.proofs.Choices.{all-at, all-set}
 use Rattle.slots.specs.Slots.{codeOf, lowest, place, put}
 use Rattle.slots.specs.Layout.{Layout, countIn, slotsIn, block, clearedIn, placeIn, unsoundAt, valueAt, valueIn, written}
-use Rattle.slots.specs.Lawful.{Lawful}
+use Rattle.slots.proofs.Lawful.{Lawful}
 use Rattle.slots.specs.declared.Slot.{Slot}
 use Rattle.slots.specs.declared.Slot.the-variants.{Held, Free, Full}
 use Rattle.slots.proofs.Blocks.{length-slots, same-length, same-tail, slots-put}

@@ -44,10 +44,6 @@ place c bs =
 abbrev pub put : ℕ → ℕ → List ℕ → List ℕ → List ℕ
 put w k b t = take (w * k) t ++ (b ++ drop w (drop (w * k) t))
 
--- the words with those from p on overwritten by b
-abbrev pub overlay : ℕ → List ℕ → List ℕ → List ℕ
-overlay p b t = take p t ++ (b ++ drop (length b) (drop p t))
-
 -- the words of blocks, one after the other
 unfoldable pub flat : List (List ℕ) → List ℕ
 flat [] = []
