@@ -1,90 +1,136 @@
 #!/usr/bin/env bash
-# Builds the Rust side into target/rust with plain rustc, against target/staticlib/libscreen.a, and runs a part of it:
+# Builds the Rust side into target/rust with cargo, over target/staticlib/libscreen.a, and runs a part of it:
 #   bash rust/build.sh test [..]       the comparisons; the last line is 'N passed, 0 failed'
+#   bash rust/build.sh cover [NAME]    the cover's own tests and the examples in its documentation, those that have NAME in theirs
+#   bash rust/build.sh scripts         vectors/scripts, and scripts that must be refused
+#   bash rust/build.sh user            a package as a user would write one, over rust/mmdh
+#   bash rust/build.sh lint            rustfmt --check and clippy, warnings denied
 #   bash rust/build.sh bench [--short] nanoseconds a message (on Arm x86-64 instructions), or only that all three ways agree
-#   bash rust/build.sh paint [..]      six panels from a capture (--help)
-#   bash rust/build.sh capture [FILE]  writes captures/morning.bin anew
+#   bash rust/build.sh paint [..]      panels from a capture (--help)
+#   bash rust/build.sh timeline [..]   every change of the badge in a capture with times (--help)
+#   bash rust/build.sh script FILE     runs a script of calls (docs/SCRIPTS.md)
+#   bash rust/build.sh capture [FILE]  writes captures/morning.bin and its times anew
 #   bash rust/build.sh header          include/mmdh.h from a C program
+#   bash rust/build.sh env             the settings with which cargo builds for the archive, as lines for a shell
 # The archive is x86-64. On an Arm machine all of this is built for x86-64 and run under an emulator.
 set -u
 cd "$(dirname "$0")/.." || exit 1
-out=target/rust
+root=$PWD
+out=$root/target/rust
+target=x86_64-unknown-linux-gnu
+bin=$out/$target/release
 archive=target/staticlib/libscreen.a
-packages="rustc libstd-rust-dev:amd64 gcc-x86-64-linux-gnu libc6-dev-amd64-cross qemu-user"
+packages="cargo rustc rustfmt rust-clippy libstd-rust-dev:amd64 gcc-x86-64-linux-gnu libc6-dev-amd64-cross qemu-user"
+settings=()
 
 fail() {
     echo "build.sh: $*" >&2
     exit 1
 }
 
-# x86-64: the machine's own compiler.
+# x86-64: the machine's own tools.
 native() {
-    command -v rustc >/dev/null 2>&1 || fail "no rustc on this machine"
-    rustc=rustc
+    command -v cargo >/dev/null 2>&1 || fail "no cargo on this machine"
+    cargo=cargo
     cc=(cc)
-    flags=()
     run=()
 }
 
-# Arm: Debian's compiler for x86-64, static programs, an emulator.
+# Arm: Debian's tools for x86-64, static programs, an emulator.
 emulated() {
-    if ! [ -x /usr/bin/rustc ] || ! [ -d /usr/lib/rustlib/x86_64-unknown-linux-gnu ] ||
-        ! command -v x86_64-linux-gnu-gcc >/dev/null 2>&1 || ! command -v qemu-x86_64 >/dev/null 2>&1; then
+    if ! [ -x /usr/bin/cargo ] || ! [ -x /usr/bin/rustc ] || ! [ -x /usr/bin/rustfmt ] || ! [ -x /usr/bin/cargo-clippy ] ||
+        ! [ -d "/usr/lib/rustlib/$target" ] || ! command -v x86_64-linux-gnu-gcc >/dev/null 2>&1 ||
+        ! command -v qemu-x86_64 >/dev/null 2>&1; then
         echo "installing $packages" >&2
         # shellcheck disable=SC2086
         { dpkg --add-architecture amd64 && apt-get update && apt-get install -y $packages; } >"$out/apt.log" 2>&1 ||
-            fail "could not install $packages (see $out/apt.log)"
+            fail "could not install $packages (see target/rust/apt.log)"
     fi
-    rustc=/usr/bin/rustc
+    cargo=/usr/bin/cargo
     cc=(x86_64-linux-gnu-gcc -static)
+    run=(qemu-x86_64)
     # the cross package's libm.a is a script with paths of another machine
     mkdir -p "$out/x86"
     for libm in /usr/x86_64-linux-gnu/lib/libm-[0-9]*.a; do
         [ -e "$libm" ] && ln -sf "$libm" "$out/x86/libm.a"
     done
-    flags=(--target x86_64-unknown-linux-gnu -C linker=x86_64-linux-gnu-gcc -C target-feature=+crt-static
-        -C relocation-model=static -L "native=$out/x86")
-    run=(qemu-x86_64)
+    # Debian's tools before others of the same names
+    settings=("PATH=/usr/bin:/bin:$PATH" CARGO=/usr/bin/cargo RUSTC=/usr/bin/rustc RUSTDOC=/usr/bin/rustdoc
+        CARGO_TARGET_X86_64_UNKNOWN_LINUX_GNU_LINKER=x86_64-linux-gnu-gcc
+        CARGO_TARGET_X86_64_UNKNOWN_LINUX_GNU_RUNNER=qemu-x86_64
+        "CARGO_TARGET_X86_64_UNKNOWN_LINUX_GNU_RUSTFLAGS=-C target-feature=+crt-static -C relocation-model=static -L native=$out/x86")
 }
 
-compile() {
-    "$rustc" --edition 2021 -C opt-level=3 -C codegen-units=1 "${flags[@]}" --out-dir "$out" -L "$out" "$@" ||
-        fail "rustc failed on ${*: -1}"
+# cargo with its settings, for the archive's target and into our folder.
+with_cargo() {
+    env "${settings[@]}" CARGO_BUILD_TARGET="$target" CARGO_TARGET_DIR="$out" "$cargo" "$@"
 }
 
-library() {
-    compile --crate-type rlib --crate-name "$1" "${@:2}" "rust/$1/lib.rs"
+# Builds some programs of the Rust side.
+programs() {
+    local name words=()
+    for name in "$@"; do words+=(-p "$name"); done
+    (cd rust && with_cargo build --offline --quiet --release "${words[@]}") || fail "cargo could not build $*"
 }
 
-program() {
-    local name=$1 crate externs=()
-    for crate in "${@:2}"; do externs+=(--extern "$crate=$out/lib$crate.rlib"); done
-    compile --crate-name "$name" "${externs[@]}" "rust/$name/main.rs"
-}
-
-over_archive() {
+has_archive() {
     [ -f "$archive" ] || fail "no $archive; run rt staticlib screen first"
-    library mmdh -L "native=$(dirname "$archive")" -l static=screen
 }
 
-# The examples in the documentation. To run them under an emulator is an option that rustdoc calls unstable.
-documentation() {
-    command -v rustdoc >/dev/null 2>&1 || fail "no rustdoc on this machine"
-    local doc=(rustdoc)
-    [ ${#run[@]} -eq 0 ] || doc=(env RUSTC_BOOTSTRAP=1 /usr/bin/rustdoc -Z unstable-options --runtool "${run[@]}")
-    "${doc[@]}" --test --edition 2021 --crate-name mmdh "${flags[@]}" -L "$out" --extern "mmdh=$out/libmmdh.rlib" rust/mmdh/lib.rs \
-        >"$out/rustdoc.log" 2>&1 || { cat "$out/rustdoc.log" >&2; fail "an example in the documentation failed"; }
-    echo "examples in the documentation: $(grep -c '^test .* ok$' "$out/rustdoc.log") ok"
+# How many tests the logs of cargo and rustdoc say passed.
+count() { # passed|failed LOG..
+    local word=$1
+    shift
+    cat "$@" | sed -n "s/^test result: .* \([0-9]*\) $word;.*/\1/p" | awk '{ n += $1 } END { print n + 0 }'
+}
+
+# The cover's tests, and the examples in its documentation: to run those under an emulator is an option that rustdoc calls unstable.
+cover() {
+    local doc=(rustdoc) good=0
+    [ ${#run[@]} -eq 0 ] || doc=(env RUSTC_BOOTSTRAP=1 "${settings[@]}" /usr/bin/rustdoc -Z unstable-options --runtool "${run[@]}"
+        -C linker=x86_64-linux-gnu-gcc -C target-feature=+crt-static -C relocation-model=static -L "native=$out/x86")
+    (cd rust && with_cargo test --offline --quiet --release -p mmdh --lib --tests -- "$@") >"$out/cover.log" 2>&1 || good=1
+    "${doc[@]}" --test --edition 2021 --crate-name mmdh --target "$target" -L "dependency=$bin/deps" \
+        --extern "mmdh=$bin/libmmdh.rlib" ${1+--test-args "$1"} rust/mmdh/lib.rs >"$out/rustdoc.log" 2>&1 || good=1
+    [ $good -eq 0 ] || cat "$out/cover.log" "$out/rustdoc.log"
+    echo "$(count passed "$out/cover.log" "$out/rustdoc.log") passed, $(count failed "$out/cover.log" "$out/rustdoc.log") failed"
+    return $good
 }
 
 # The capture is what its program writes, and painted it fills, goes green and goes stale.
 painted() {
-    "${run[@]}" "$out/capture" "$out/morning.bin" >/dev/null || fail "the capture could not be written"
+    "${run[@]}" "$bin/capture" "$out/morning.bin" >/dev/null || fail "the capture could not be written"
     cmp -s "$out/morning.bin" captures/morning.bin || fail "captures/morning.bin is not what rust/capture writes"
     local badges
-    badges=$("${run[@]}" "$out/paint" --plain "$out/morning.bin" | grep -oE 'filling|green|stale' | uniq | tr '\n' ' ')
+    badges=$("${run[@]}" "$bin/paint" --plain "$out/morning.bin" | grep -oE 'filling|green|stale' | uniq | tr '\n' ' ')
     [ "$badges" = "filling green stale green stale " ] || fail "the badges of the capture were: $badges"
     echo "captures/morning.bin painted: $badges"
+}
+
+# A package of its own over rust/mmdh, built as a user's is: its folder, its manifest, cargo build for the target.
+user() {
+    env "${settings[@]}" CARGO_TARGET_DIR="$out/user" "$cargo" build --offline --quiet --manifest-path tests/user/Cargo.toml --target "$target" ||
+        fail "tests/user could not be built"
+    "${run[@]}" "$out/user/$target/debug/user" captures/morning.bin
+}
+
+lint() {
+    local good=0 fmt=rustfmt
+    [ ${#run[@]} -eq 0 ] || fmt=/usr/bin/rustfmt
+    command -v "$fmt" >/dev/null 2>&1 || fail "no rustfmt on this machine"
+    # shellcheck disable=SC2046
+    "$fmt" --check --edition 2021 --config-path rust/rustfmt.toml $(git ls-files '*.rs') || good=1
+    if env "${settings[@]}" cargo-clippy --version >/dev/null 2>&1; then
+        for manifest in rust/Cargo.toml tests/user/Cargo.toml; do
+            env "${settings[@]}" CARGO_TARGET_DIR="$out/lint" cargo-clippy clippy --offline --quiet --all-targets --target "$target" \
+                --manifest-path "$manifest" -- -D warnings || good=$((good + 1))
+        done
+    else
+        echo "no clippy on this machine: the compiler's warnings only"
+        (cd rust && with_cargo rustc --offline --quiet -p mmdh --lib -- -D warnings) || good=$((good + 1))
+    fi
+    echo "$((3 - good)) passed, $good failed"
+    [ $good -eq 0 ]
 }
 
 mkdir -p "$out" || fail "cannot make $out"
@@ -98,37 +144,57 @@ part=${1:-}
 [ $# -gt 0 ] && shift
 case $part in
     test)
-        library twin && library exchange && over_archive
-        program tests twin exchange mmdh && program bench twin exchange mmdh
-        program paint mmdh && program capture exchange
-        documentation
+        has_archive
+        programs tests bench paint capture
         painted
-        "${run[@]}" "$out/bench" --short || fail "the benchmark failed"
-        "${run[@]}" "$out/tests" "$@"
+        "${run[@]}" "$bin/bench" --short || fail "the benchmark failed"
+        "${run[@]}" "$bin/tests" "$@"
+        ;;
+    cover)
+        has_archive
+        programs mmdh
+        cover "$@"
+        ;;
+    scripts)
+        has_archive
+        programs script
+        "${run[@]}" "$bin/script" --check vectors/scripts tests/scripts
+        ;;
+    user)
+        has_archive
+        user
+        ;;
+    lint)
+        has_archive
+        lint
         ;;
     bench)
-        library twin && library exchange && over_archive
-        program bench twin exchange mmdh
+        has_archive
+        programs bench
         if [ ${#run[@]} -eq 0 ] || [ $# -gt 0 ]; then
-            "${run[@]}" "$out/bench" "$@"
+            "${run[@]}" "$bin/bench" "$@"
         else
             # under an emulator times mean nothing
-            "${run[@]}" "$out/bench" --short && bash rust/bench/count.sh
+            "${run[@]}" "$bin/bench" --short && bash rust/bench/count.sh
         fi
         ;;
-    paint)
-        over_archive && program paint mmdh
-        "${run[@]}" "$out/paint" "$@"
+    paint | timeline | script)
+        has_archive
+        programs "$part"
+        "${run[@]}" "$bin/$part" "$@"
         ;;
     capture)
-        library exchange && program capture exchange
-        "${run[@]}" "$out/capture" "$@"
+        programs capture
+        "${run[@]}" "$bin/capture" "$@"
         ;;
     header)
-        [ -f "$archive" ] || fail "no $archive; run rt staticlib screen first"
+        has_archive
         "${cc[@]}" -std=c11 -Wall -Wextra -pedantic -Werror -Iinclude -o "$out/header" tests/header/main.c "$archive" ||
             fail "the C compiler failed on tests/header/main.c"
         "${run[@]}" "$out/header" vectors/example10.in
         ;;
-    *) fail "say test, bench [--short], paint .., capture or header" ;;
+    env)
+        for setting in ${settings[@]+"${settings[@]}"}; do printf "export %s='%s'\n" "${setting%%=*}" "${setting#*=}"; done
+        ;;
+    *) fail "say test, cover, scripts, user, lint, bench [--short], paint .., timeline .., script FILE, capture, header or env" ;;
 esac

@@ -5,7 +5,7 @@
 # 'bash rust/build.sh bench' runs it on Arm; elsewhere run it from the repository's root after 'bash rust/build.sh bench --short'.
 set -u
 cd "$(dirname "$0")/../.." || exit 1
-bench=target/rust/bench
+bench=target/rust/x86_64-unknown-linux-gnu/release/bench
 if [ ! -x "$bench" ]; then
     echo "count: no $bench; run bash rust/build.sh bench --short first" >&2
     exit 1
