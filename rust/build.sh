@@ -63,7 +63,7 @@ emulated() {
 
 # cargo with its settings, for the archive's target and into our folder.
 with_cargo() {
-    env "${settings[@]}" CARGO_BUILD_TARGET="$target" CARGO_TARGET_DIR="$out" "$cargo" "$@"
+    env ${settings[@]+"${settings[@]}"} CARGO_BUILD_TARGET="$target" CARGO_TARGET_DIR="$out" "$cargo" "$@"
 }
 
 # Builds some programs of the Rust side.
@@ -107,30 +107,29 @@ painted() {
     echo "captures/morning.bin painted: $badges"
 }
 
-# A package of its own over rust/mmdh, built as a user's is: its folder, its manifest, cargo build for the target.
-user() {
-    env "${settings[@]}" CARGO_TARGET_DIR="$out/user" "$cargo" build --offline --quiet --manifest-path tests/user/Cargo.toml --target "$target" ||
-        fail "tests/user could not be built"
-    "${run[@]}" "$out/user/$target/debug/user" captures/morning.bin
+# One check of the sources.
+checks() { # COMMAND..
+    if "$@"; then passed=$((passed + 1)); else failed=$((failed + 1)); fi
 }
 
 lint() {
-    local good=0 fmt=rustfmt
+    local fmt=rustfmt manifest passed=0 failed=0
     [ ${#run[@]} -eq 0 ] || fmt=/usr/bin/rustfmt
     command -v "$fmt" >/dev/null 2>&1 || fail "no rustfmt on this machine"
     # shellcheck disable=SC2046
-    "$fmt" --check --edition 2021 --config-path rust/rustfmt.toml $(git ls-files '*.rs') || good=1
-    if env "${settings[@]}" cargo-clippy --version >/dev/null 2>&1; then
-        for manifest in rust/Cargo.toml tests/user/Cargo.toml; do
-            env "${settings[@]}" CARGO_TARGET_DIR="$out/lint" cargo-clippy clippy --offline --quiet --all-targets --target "$target" \
-                --manifest-path "$manifest" -- -D warnings || good=$((good + 1))
-        done
-    else
-        echo "no clippy on this machine: the compiler's warnings only"
-        (cd rust && with_cargo rustc --offline --quiet -p mmdh --lib -- -D warnings) || good=$((good + 1))
-    fi
-    echo "$((3 - good)) passed, $good failed"
-    [ $good -eq 0 ]
+    checks "$fmt" --check --edition 2021 --config-path rust/rustfmt.toml $(find rust tests -name '*.rs')
+    for manifest in rust/Cargo.toml tests/user/Cargo.toml; do
+        if env ${settings[@]+"${settings[@]}"} cargo-clippy --version >/dev/null 2>&1; then
+            checks env ${settings[@]+"${settings[@]}"} CARGO_TARGET_DIR="$out/lint" cargo-clippy clippy --offline --quiet --all-targets \
+                --target "$target" --manifest-path "$manifest" -- -D warnings
+        else
+            echo "no clippy on this machine: $manifest by the compiler's warnings only"
+            checks env ${settings[@]+"${settings[@]}"} CARGO_TARGET_DIR="$out/lint" RUSTFLAGS="-D warnings" "$cargo" check --offline --quiet \
+                --target "$target" --manifest-path "$manifest"
+        fi
+    done
+    echo "$passed passed, $failed failed"
+    [ "$failed" -eq 0 ]
 }
 
 mkdir -p "$out" || fail "cannot make $out"
@@ -162,7 +161,7 @@ case $part in
         ;;
     user)
         has_archive
-        user
+        env ${settings[@]+"${settings[@]}"} bash tests/user/check "$cargo" "$out/user" ${run[@]+"${run[@]}"}
         ;;
     lint)
         has_archive

@@ -8,7 +8,8 @@ mod panel;
 mod terminal;
 
 use line::Line;
-use mmdh::{Answer, Books, Connect, Feed};
+use mmdh::single::Feed;
+use mmdh::{Answer, Books, Connect};
 use options::Options;
 use panel::{Look, Panel};
 use std::io::Write;

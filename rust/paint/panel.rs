@@ -123,7 +123,7 @@ pub struct Panel {
 
 impl Panel {
     pub fn new(books: &Books<'_>, code: Option<u64>, badge: Badge) -> Panel {
-        let rows = |side| code.map_or_else(Vec::new, |code| books.rows(code, side).collect());
+        let rows = |side| code.and_then(|code| books.side(code, side).ok()).map_or_else(Vec::new, |rows| rows.to_vec());
         Panel { code, badge, bids: rows(mmdh::Side::Bid), offers: rows(mmdh::Side::Offer) }
     }
 
