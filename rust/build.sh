@@ -3,6 +3,7 @@
 #   bash rust/build.sh test [..]       the comparisons; the last line is 'N passed, 0 failed'
 #   bash rust/build.sh cover [NAME]    the cover's own tests and the examples in its documentation, those that have NAME in theirs
 #   bash rust/build.sh scripts         vectors/scripts, and scripts that must be refused
+#   bash rust/build.sh timelines       what the timeline prints of tests/timeline and of the morning
 #   bash rust/build.sh user            a package as a user would write one, over rust/mmdh
 #   bash rust/build.sh lint            rustfmt --check and clippy, warnings denied
 #   bash rust/build.sh bench [--short] nanoseconds a message (on Arm x86-64 instructions), or only that all three ways agree
@@ -89,7 +90,7 @@ cover() {
     local doc=(rustdoc) good=0
     [ ${#run[@]} -eq 0 ] || doc=(env RUSTC_BOOTSTRAP=1 "${settings[@]}" /usr/bin/rustdoc -Z unstable-options --runtool "${run[@]}"
         -C linker=x86_64-linux-gnu-gcc -C target-feature=+crt-static -C relocation-model=static -L "native=$out/x86")
-    (cd rust && with_cargo test --offline --quiet --release -p mmdh --lib --tests -- "$@") >"$out/cover.log" 2>&1 || good=1
+    (cd rust && with_cargo test --offline --quiet --release -p mmdh -p timeline -- "$@") >"$out/cover.log" 2>&1 || good=1
     "${doc[@]}" --test --edition 2021 --crate-name mmdh --target "$target" -L "dependency=$bin/deps" \
         --extern "mmdh=$bin/libmmdh.rlib" ${1+--test-args "$1"} rust/mmdh/lib.rs >"$out/rustdoc.log" 2>&1 || good=1
     [ $good -eq 0 ] || cat "$out/cover.log" "$out/rustdoc.log"
@@ -100,11 +101,33 @@ cover() {
 # The capture is what its program writes, and painted it fills, goes green and goes stale.
 painted() {
     "${run[@]}" "$bin/capture" "$out/morning.bin" >/dev/null || fail "the capture could not be written"
-    cmp -s "$out/morning.bin" captures/morning.bin || fail "captures/morning.bin is not what rust/capture writes"
+    local ending
+    for ending in bin times; do
+        cmp -s "$out/morning.$ending" "captures/morning.$ending" || fail "captures/morning.$ending is not what rust/capture writes"
+    done
     local badges
     badges=$("${run[@]}" "$bin/paint" --plain "$out/morning.bin" | grep -oE 'filling|green|stale' | uniq | tr '\n' ' ')
     [ "$badges" = "filling green stale green stale " ] || fail "the badges of the capture were: $badges"
     echo "captures/morning.bin painted: $badges"
+}
+
+# Every timeline, in words and for a spreadsheet, is what stands beside its times.
+timelines() {
+    local times name passed=0 failed=0
+    for times in captures/morning.times tests/timeline/*.times; do
+        name=tests/timeline/$(basename "$times" .times)
+        checks same "$name.out" "${run[@]}" "$bin/timeline" "$times"
+        checks same "$name.csv" "${run[@]}" "$bin/timeline" "$times" --csv
+    done
+    echo "$passed passed, $failed failed"
+    [ "$failed" -eq 0 ]
+}
+
+# What a command prints is what a file has.
+same() { # FILE COMMAND..
+    "${@:2}" | diff - "$1" && return
+    echo "differs from $1"
+    return 1
 }
 
 # One check of the sources.
@@ -159,6 +182,11 @@ case $part in
         programs script
         "${run[@]}" "$bin/script" --check vectors/scripts tests/scripts
         ;;
+    timelines)
+        has_archive
+        programs timeline
+        timelines
+        ;;
     user)
         has_archive
         env ${settings[@]+"${settings[@]}"} bash tests/user/check "$cargo" "$out/user" ${run[@]+"${run[@]}"}
@@ -195,5 +223,5 @@ case $part in
     env)
         for setting in ${settings[@]+"${settings[@]}"}; do printf "export %s='%s'\n" "${setting%%=*}" "${setting#*=}"; done
         ;;
-    *) fail "say test, cover, scripts, user, lint, bench [--short], paint .., timeline .., script FILE, capture, header or env" ;;
+    *) fail "say test, cover, scripts, timelines, user, lint, bench [--short], paint .., timeline .., script FILE, capture, header or env" ;;
 esac

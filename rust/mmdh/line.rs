@@ -32,7 +32,7 @@ const HEADER: usize = 20;
 /// assert_eq!(line.badge(5_100), Badge::Stale);
 /// assert_eq!(
 ///     line.reason(5_100).to_string(),
-///     "lost: the sequence number is not the next (answer 13), unit 3, SeqNum 3 expected and 2 met"
+///     "lost: the sequence number is not the next (answer 13), unit 3, type 1102, SeqNum 3 expected and 2 met"
 /// );
 /// # Ok::<(), mmdh::Refused>(())
 /// ```
@@ -186,12 +186,16 @@ impl Line {
 
     /// Notes the arrival that lost the line.
     fn refused(&mut self, refused: Refused, expected: u64, rest: &[u8], time: u64) {
-        let loses = !matches!(refused.answer(), Answer::Early | Answer::NotOpen);
-        let header = rest.get(4..8).and_then(|seq| seq.try_into().ok()).map(u32::from_le_bytes);
-        if let (true, Some(met)) = (loses, header) {
-            let (answer, unit) = (refused.answer(), self.saw.units + 1);
-            self.saw.loss = Some(Loss { answer, expected, met: u64::from(met), unit, time });
+        if matches!(refused.answer(), Answer::Early | Answer::NotOpen) {
+            return;
         }
+        let met = rest.get(4..8).and_then(|seq| seq.try_into().ok()).map_or(0, u32::from_le_bytes);
+        let kind = match rest.get(HEADER..HEADER + 4) {
+            Some(&[low, high, first, second]) if high > 0 || low >= 4 => Some(u16::from_le_bytes([first, second])),
+            _ => None,
+        };
+        let (answer, unit) = (refused.answer(), self.saw.units + 1);
+        self.saw.loss = Some(Loss { answer, expected, met: u64::from(met), kind, unit, time });
     }
 
     /// What the panels' corners show at a time.

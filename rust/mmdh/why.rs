@@ -89,6 +89,8 @@ pub struct Loss {
     pub expected: u64,
     /// The SeqNum in its header.
     pub met: u64,
+    /// Its MsgType, where its message is long enough to have one.
+    pub kind: Option<u16>,
     /// Which unit it was, counted from 1 since the connect, heartbeats too.
     pub unit: u64,
     /// When it came.
@@ -188,6 +190,7 @@ impl fmt::Display for Reason {
 impl fmt::Display for Loss {
     fn fmt(&self, f: &mut fmt::Formatter<'_>) -> fmt::Result {
         write!(f, "{} (answer {}), unit {}, ", self.answer, self.answer.number(), self.unit)?;
+        self.kind.map_or(Ok(()), |kind| write!(f, "type {}, ", kind))?;
         if self.met == self.expected {
             write!(f, "SeqNum {}", self.met)
         } else {

@@ -86,7 +86,7 @@ fn a_gap_loses_the_line_and_says_which() {
     let loss = reason.loss.expect("what lost the line");
     assert_eq!((loss.answer, loss.expected, loss.met, loss.unit, loss.time), (Answer::NotNext, 4, 6, 4, 5_100));
     assert_eq!((reason.why, reason.badge(), line.badge(5_200)), (Why::Lost, Badge::Stale, Badge::Stale));
-    let words = "lost: the sequence number is not the next (answer 13), unit 4, SeqNum 4 expected and 6 met";
+    let words = "lost: the sequence number is not the next (answer 13), unit 4, type 53, SeqNum 4 expected and 6 met";
     assert_eq!(reason.to_string(), words);
     assert_eq!((line.is_open(), line.waiting()), (false, 0));
 }
@@ -107,7 +107,7 @@ fn a_lost_line_never_says_wait() {
 fn a_misfit_says_so_and_cannot_resume() {
     let mut line = live(5_000);
     assert!(line.hear(&unit(4, 2, &bid(5, 5, 90)), 5_000).is_err());
-    let words = "lost: an entry does not fit the book (answer 16), unit 4, SeqNum 4";
+    let words = "lost: an entry does not fit the book (answer 16), unit 4, type 53, SeqNum 4";
     assert_eq!(line.reason(5_000).to_string(), words);
     assert_eq!(line.connect(Connect::Resuming, 5_001).unwrap_err().answer(), Answer::CannotResume);
     assert_eq!(line.reason(5_001).refused.map(|refused| refused.answer()), Some(Answer::CannotResume));
@@ -187,6 +187,14 @@ fn what_closed_a_line_is_told() {
     let mut line = connected(0);
     line.hear(&session_bytes(5, &[]), 0).expect("accepted");
     assert_eq!(line.reason(0).to_string(), "closed: the logon was turned down (type 1102, status 5), unit 2");
+}
+
+#[test]
+fn a_message_too_short_for_a_type_has_none() {
+    let mut line = live(5_000);
+    assert!(line.hear(&[&unit(4, 2, &[3, 0, 53])[..], &[0; 9]].concat(), 5_000).is_err());
+    let loss = line.reason(5_000).loss.expect("what lost the line");
+    assert_eq!((loss.answer, loss.kind, loss.met), (Answer::WrongSize, None, 4));
 }
 
 #[test]
