@@ -4,6 +4,7 @@
 #   bash rust/build.sh cover [NAME]    the cover's own tests and the examples in its documentation, those that have NAME in theirs
 #   bash rust/build.sh scripts         vectors/scripts, and scripts that must be refused
 #   bash rust/build.sh timelines       what the timeline prints of tests/timeline and of the morning
+#   bash rust/build.sh panels          the painter as it is run: options, files, terminals, docs/panels.svg
 #   bash rust/build.sh user            a package as a user would write one, over rust/mmdh
 #   bash rust/build.sh lint            rustfmt --check and clippy, warnings denied
 #   bash rust/build.sh bench [--short] nanoseconds a message (on Arm x86-64 instructions), or only that all three ways agree
@@ -90,7 +91,7 @@ cover() {
     local doc=(rustdoc) good=0
     [ ${#run[@]} -eq 0 ] || doc=(env RUSTC_BOOTSTRAP=1 "${settings[@]}" /usr/bin/rustdoc -Z unstable-options --runtool "${run[@]}"
         -C linker=x86_64-linux-gnu-gcc -C target-feature=+crt-static -C relocation-model=static -L "native=$out/x86")
-    (cd rust && with_cargo test --offline --quiet --release -p mmdh -p timeline -- "$@") >"$out/cover.log" 2>&1 || good=1
+    (cd rust && with_cargo test --offline --quiet --release -p mmdh -p timeline -p paint -- "$@") >"$out/cover.log" 2>&1 || good=1
     "${doc[@]}" --test --edition 2021 --crate-name mmdh --target "$target" -L "dependency=$bin/deps" \
         --extern "mmdh=$bin/libmmdh.rlib" ${1+--test-args "$1"} rust/mmdh/lib.rs >"$out/rustdoc.log" 2>&1 || good=1
     [ $good -eq 0 ] || cat "$out/cover.log" "$out/rustdoc.log"
@@ -98,17 +99,14 @@ cover() {
     return $good
 }
 
-# The capture is what its program writes, and painted it fills, goes green and goes stale.
-painted() {
-    "${run[@]}" "$bin/capture" "$out/morning.bin" >/dev/null || fail "the capture could not be written"
+# The capture and its times are what their program writes.
+recorded() {
     local ending
+    "${run[@]}" "$bin/capture" "$out/morning.bin" >/dev/null || fail "the capture could not be written"
     for ending in bin times; do
         cmp -s "$out/morning.$ending" "captures/morning.$ending" || fail "captures/morning.$ending is not what rust/capture writes"
     done
-    local badges
-    badges=$("${run[@]}" "$bin/paint" --plain "$out/morning.bin" | grep -oE 'filling|green|stale' | uniq | tr '\n' ' ')
-    [ "$badges" = "filling green stale green stale " ] || fail "the badges of the capture were: $badges"
-    echo "captures/morning.bin painted: $badges"
+    echo "captures/morning.bin and morning.times are what rust/capture writes"
 }
 
 # Every timeline, in words and for a spreadsheet, is what stands beside its times.
@@ -167,8 +165,8 @@ part=${1:-}
 case $part in
     test)
         has_archive
-        programs tests bench paint capture
-        painted
+        programs tests bench capture
+        recorded
         "${run[@]}" "$bin/bench" --short || fail "the benchmark failed"
         "${run[@]}" "$bin/tests" "$@"
         ;;
@@ -186,6 +184,11 @@ case $part in
         has_archive
         programs timeline
         timelines
+        ;;
+    panels)
+        has_archive
+        programs paint
+        bash tests/panels "${run[@]}" "$bin/paint"
         ;;
     user)
         has_archive
@@ -223,5 +226,5 @@ case $part in
     env)
         for setting in ${settings[@]+"${settings[@]}"}; do printf "export %s='%s'\n" "${setting%%=*}" "${setting#*=}"; done
         ;;
-    *) fail "say test, cover, scripts, timelines, user, lint, bench [--short], paint .., timeline .., script FILE, capture, header or env" ;;
+    *) fail "say test, cover, scripts, timelines, panels, user, lint, bench [--short], paint .., timeline .., script FILE, capture, header or env" ;;
 esac
