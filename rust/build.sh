@@ -117,6 +117,8 @@ timelines() {
         checks same "$name.out" "${run[@]}" "$bin/timeline" "$times"
         checks same "$name.csv" "${run[@]}" "$bin/timeline" "$times" --csv
     done
+    # the README shows the morning's
+    checks same tests/timeline/morning.out sed -n 's/^    \(06:00:.*\)/\1/p' README.md
     echo "$passed passed, $failed failed"
     [ "$failed" -eq 0 ]
 }
@@ -224,6 +226,7 @@ case $part in
         "${run[@]}" "$out/header" vectors/example10.in
         ;;
     env)
+        [ ${#run[@]} -eq 0 ] || settings+=("CARGO_BUILD_TARGET=$target")
         for setting in ${settings[@]+"${settings[@]}"}; do printf "export %s='%s'\n" "${setting%%=*}" "${setting#*=}"; done
         ;;
     *) fail "say test, cover, scripts, timelines, panels, user, lint, bench [--short], paint .., timeline .., script FILE, capture, header or env" ;;
