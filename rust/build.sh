@@ -151,6 +151,9 @@ lint() {
                 --target "$target" --manifest-path "$manifest"
         fi
     done
+    # the documentation has no warnings either
+    checks env ${settings[@]+"${settings[@]}"} CARGO_TARGET_DIR="$out/lint" RUSTDOCFLAGS="-D warnings" "$cargo" doc --offline --quiet --no-deps \
+        --target "$target" --manifest-path rust/mmdh/Cargo.toml
     echo "$passed passed, $failed failed"
     [ "$failed" -eq 0 ]
 }

@@ -48,7 +48,7 @@ impl Desk {
         !self.line.is_open()
     }
 
-    /// A frame that is no wider and no higher than the size: badge and reason first, then the rest as far as there is room.
+    /// A frame no wider and no higher than the size: badge and reason first, then the rest as far as there is room.
     pub fn frame(&self, options: &Options, size: Size, time: u64) -> Vec<Text> {
         let mut lines = self.head(size, time);
         let codes = self.codes(options);

@@ -45,8 +45,8 @@ fn with(columns: Columns, asked: Asked, room: Size) -> Layout {
     Layout { columns, rows, across: parts(shown, bands).max(1), shown }
 }
 
-/// The layout that shows most: all panels that are wanted, then three rows a side, then all columns, then more rows, then
-/// the widest panels.
+/// The layout that shows most: all panels that are wanted, then three rows a side, then all columns, then more rows,
+/// then the widest panels.
 pub fn layout(asked: Asked, room: Size) -> Layout {
     let worth =
         |layout: &Layout| (layout.shown.min(asked.panels), layout.rows.min(3), layout.columns.len(), layout.rows);

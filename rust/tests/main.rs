@@ -11,6 +11,7 @@ mod pair;
 mod program;
 mod runs;
 mod scene;
+mod sides;
 mod singles;
 mod tally;
 
@@ -57,6 +58,7 @@ fn main() {
     grids::check(&mut pair, &mut dice);
     badges::check(&mut pair, &mut dice, options.rounds / 4);
     singles::check(&mut pair, &mut dice, options.rounds);
+    sides::check(&mut pair.tally, &mut dice, options.rounds / 1_000);
     singles::check_large(&mut pair, &mut dice, options.rounds / 3_000);
     runs::check(&mut pair, &mut dice, options.rounds / 6_000, 500);
     runs::check_market(&mut pair, (options.rounds / 40) as u32);
