@@ -157,11 +157,12 @@ impl Line {
                 Ok(answer) => {
                     let unit = &rest[..arrival.used];
                     used += arrival.used;
-                    self.accepted(unit, time);
+                    self.accepted(&unit[HEADER..], time);
                     each(&Unit { answer, number: self.saw.units, bytes: unit, feed: &self.feed, books: &self.books });
                 }
                 Err(refused) => {
-                    self.refused(refused, expected, rest, time);
+                    let met = rest.get(4..8).and_then(|seq| seq.try_into().ok()).map_or(0, u32::from_le_bytes);
+                    self.refused(refused, (expected, met), rest.get(HEADER..).unwrap_or(&[]), time);
                     return (used, Some(refused));
                 }
             }
@@ -171,26 +172,46 @@ impl Line {
         }
     }
 
-    /// Notes a unit, and the one that closes the line.
-    fn accepted(&mut self, unit: &[u8], time: u64) {
-        self.saw.units += 1;
-        if self.feed.phase() != Phase::Closed {
-            return;
+    /// A message that another box has cut out of its unit, with the two numbers of its header. Refused as in
+    /// [`Line::hear`]; bytes that wait have no part in it.
+    ///
+    /// ```
+    /// use mmdh::{Answer, Badge, Connect, Line};
+    /// let mut line = Line::new(1_000, 128)?;
+    /// line.connect(Connect::Fresh, 0)?;
+    /// assert_eq!(line.hear_cut(1, 0, &[4, 0, 0x51, 4], 0)?, Answer::Taken);
+    /// assert_eq!(line.hear_cut(2, 0, &[8, 0, 0x4E, 4, 0, 0, 0, 0], 0)?, Answer::Taken);
+    /// assert_eq!(line.badge(0), Badge::Green);
+    /// assert_eq!(line.hear_cut(7, 1, &[4, 0, 40, 0], 0).unwrap_err().answer(), Answer::NotNext);
+    /// assert_eq!(line.reason(0).loss.map(|loss| (loss.expected, loss.met)), Some((3, 7)));
+    /// # Ok::<(), mmdh::Refused>(())
+    /// ```
+    pub fn hear_cut(&mut self, seq: u32, internal: u32, message: &[u8], time: u64) -> Result<Answer, Refused> {
+        let expected = self.feed.next();
+        let heard = self.feed.arrive_cut(&mut self.books, seq, internal, message, time).or_refused();
+        match heard {
+            Ok(_) => self.accepted(message, time),
+            Err(refused) => self.refused(refused, (expected, seq), message, time),
         }
-        if let Some(message) = unit.get(HEADER..HEADER + 8) {
+        heard
+    }
+
+    /// Notes a unit by its message, and the one that closes the line.
+    fn accepted(&mut self, message: &[u8], time: u64) {
+        self.saw.units += 1;
+        if let (Phase::Closed, Some(message)) = (self.feed.phase(), message.get(..8)) {
             let kind = u16::from_le_bytes([message[2], message[3]]);
             let status = if kind == 1103 { message[4] } else { message[6] };
             self.saw.closing = Some(Closing { kind, status, unit: self.saw.units, time });
         }
     }
 
-    /// Notes the arrival that lost the line.
-    fn refused(&mut self, refused: Refused, expected: u64, rest: &[u8], time: u64) {
+    /// Notes the arrival that lost the line, with the SeqNums expected and met.
+    fn refused(&mut self, refused: Refused, (expected, met): (u64, u32), message: &[u8], time: u64) {
         if matches!(refused.answer(), Answer::Early | Answer::NotOpen) {
             return;
         }
-        let met = rest.get(4..8).and_then(|seq| seq.try_into().ok()).map_or(0, u32::from_le_bytes);
-        let kind = match rest.get(HEADER..HEADER + 4) {
+        let kind = match message.get(..4) {
             Some(&[low, high, first, second]) if high > 0 || low >= 4 => Some(u16::from_le_bytes([first, second])),
             _ => None,
         };
