@@ -91,7 +91,7 @@ cover() {
     local doc=(rustdoc) good=0
     [ ${#run[@]} -eq 0 ] || doc=(env RUSTC_BOOTSTRAP=1 "${settings[@]}" /usr/bin/rustdoc -Z unstable-options --runtool "${run[@]}"
         -C linker=x86_64-linux-gnu-gcc -C target-feature=+crt-static -C relocation-model=static -L "native=$out/x86")
-    (cd rust && with_cargo test --offline --quiet --release -p mmdh -p timeline -p paint -- "$@") >"$out/cover.log" 2>&1 || good=1
+    (cd rust && with_cargo test --offline --quiet --release --no-fail-fast -p mmdh -p timeline -p paint -- "$@") >"$out/cover.log" 2>&1 || good=1
     "${doc[@]}" --test --edition 2021 --crate-name mmdh --target "$target" -L "dependency=$bin/deps" \
         --extern "mmdh=$bin/libmmdh.rlib" ${1+--test-args "$1"} rust/mmdh/lib.rs >"$out/rustdoc.log" 2>&1 || good=1
     [ $good -eq 0 ] || cat "$out/cover.log" "$out/rustdoc.log"

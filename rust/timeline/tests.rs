@@ -46,6 +46,7 @@ fn no_change_of_the_morning_is_missed() {
     for limit in [400, 1_000, 1_999, 2_000, 3_000, 600_000] {
         let changes = changes(&events, &bytes, limit).expect("listed");
         assert_eq!(badges(&changes), asked(&events, &bytes, limit), "limit {}", limit);
+        assert!(changes.iter().all(|change| (change.after == Badge::Stale) == (change.event == "silence")));
         assert!(changes.windows(2).all(|pair| pair[0].after == pair[1].before && pair[0].time <= pair[1].time));
     }
 }
