@@ -7,11 +7,14 @@ fn main() -> Result<(), Box<dyn std::error::Error>> {
     let mut line = Line::new(1_000, 128)?; // a silence limit of 1,000 ms, room for 128 books
     line.connect(Connect::Fresh, 0)?;
     for piece in bytes.chunks(1_000) {
-        line.hear(piece, 10)?; // at 10 ms; what is not whole waits
+        // at 10 ms; what is not whole waits, and after a refusal nothing more is taken
+        if line.hear(piece, 10).is_err() {
+            break;
+        }
     }
     for time in [10, 1_010, 1_011] {
         println!("{}: {}", line.badge(time), line.reason(time));
     }
-    println!("{:?}", line.books().bids(700)?);
+    println!("{:?}", line.books().bids(700));
     Ok(())
 }
