@@ -60,6 +60,7 @@ pub mod single {
 }
 
 /// The life of a connection.
+#[cfg(any(doc, doctest))]
 pub mod connection {
     #![doc = include_str!("../../docs/CONNECTION.md")]
 }

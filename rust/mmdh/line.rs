@@ -124,7 +124,8 @@ impl Line {
     /// Bytes have come, in whatever pieces. Every whole unit is worked on, the rest waits.
     ///
     /// A refusal ends it: with 12 to 18 the line is lost, with 11 it was not open, and what is left is dropped. Only
-    /// with 10, a time before the last heard one, do the bytes wait for a call with a later time.
+    /// with 10, a time before the last heard one, do the bytes wait for a call with a later time; until one comes they
+    /// add up.
     pub fn hear(&mut self, bytes: &[u8], time: u64) -> Result<Heard, Refused> {
         self.hear_each(bytes, time, |_| {})
     }

@@ -91,7 +91,6 @@ impl Follower {
     /// Unit after unit; the badge and its reason are those right behind the unit.
     fn hear(&mut self, bytes: &[u8]) {
         let (time, mut badge, mut seen) = (self.time, self.badge, Vec::new());
-        let open = self.line.is_open();
         let each = |unit: &Unit<'_>| {
             let (before, after) = (badge, unit.feed.badge(time));
             badge = after;
@@ -104,14 +103,17 @@ impl Follower {
         let ended = self.line.hear_each(bytes, time, each);
         self.changes.append(&mut seen);
         self.badge = badge;
-        match ended {
-            Err(refused) if open => self.refused(refused),
-            _ => self.tell_closing(),
+        self.tell_closing();
+        if let Err(refused) = ended {
+            self.refused(refused);
         }
     }
 
     /// The arrival that was refused; of those behind it, which are all 11, nothing is noted.
     fn refused(&mut self, refused: Refused) {
+        if refused.answer() == Answer::NotOpen {
+            return;
+        }
         let of = |loss: Loss| Cause { unit: loss.unit, seq: loss.met, kind: loss.kind };
         let cause = self.line.reason(self.time).loss.map(of);
         self.note("refused unit", cause, Some(refused.answer()));
