@@ -88,15 +88,15 @@ count() { # passed|failed LOG..
 
 # The cover's tests, and the examples in its documentation: to run those under an emulator is an option that rustdoc calls unstable.
 cover() {
-    local doc=(rustdoc) good=0
+    local doc=(rustdoc) bad=0
     [ ${#run[@]} -eq 0 ] || doc=(env RUSTC_BOOTSTRAP=1 "${settings[@]}" /usr/bin/rustdoc -Z unstable-options --runtool "${run[@]}"
         -C linker=x86_64-linux-gnu-gcc -C target-feature=+crt-static -C relocation-model=static -L "native=$out/x86")
-    (cd rust && with_cargo test --offline --quiet --release --no-fail-fast -p mmdh -p timeline -p paint -- "$@") >"$out/cover.log" 2>&1 || good=1
+    (cd rust && with_cargo test --offline --quiet --release --no-fail-fast -p mmdh -p timeline -p paint -- "$@") >"$out/cover.log" 2>&1 || bad=1
     "${doc[@]}" --test --edition 2021 --crate-name mmdh --target "$target" -L "dependency=$bin/deps" \
-        --extern "mmdh=$bin/libmmdh.rlib" ${1+--test-args "$1"} rust/mmdh/lib.rs >"$out/rustdoc.log" 2>&1 || good=1
-    [ $good -eq 0 ] || cat "$out/cover.log" "$out/rustdoc.log"
+        --extern "mmdh=$bin/libmmdh.rlib" ${1+--test-args "$1"} rust/mmdh/lib.rs >"$out/rustdoc.log" 2>&1 || bad=1
+    [ $bad -eq 0 ] || cat "$out/cover.log" "$out/rustdoc.log"
     echo "$(count passed "$out/cover.log" "$out/rustdoc.log") passed, $(count failed "$out/cover.log" "$out/rustdoc.log") failed"
-    return $good
+    return $bad
 }
 
 # The capture and its times are what their program writes.
