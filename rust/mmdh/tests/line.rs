@@ -58,6 +58,44 @@ fn any_pieces_are_one_stream() {
     }
 }
 
+/// The first refusal of a stream in pieces of at most this many bytes, and the line after all of them.
+fn followed(stream: &[u8], largest: usize, dice: &mut Dice) -> (Option<Answer>, Line) {
+    let mut line = Line::new(1_000, 32).expect("listed");
+    line.connect(Connect::Fresh, 7).expect("accepted");
+    let (mut rest, mut first) = (stream, None);
+    while !rest.is_empty() {
+        let (piece, after) = rest.split_at((1 + dice.place(largest)).min(rest.len()));
+        let refused = line.hear(piece, 7).err().map(|refused| refused.answer());
+        first = first.or(refused);
+        rest = after;
+    }
+    (first, line)
+}
+
+#[test]
+fn damaged_streams_end_alike_in_any_pieces() {
+    let morning = std::fs::read("../../captures/morning.bin").expect("the capture");
+    let mut dice = Dice::new(77);
+    let mut met = std::collections::BTreeSet::new();
+    for _ in 0..300 {
+        let mut stream = morning[..60_000].to_vec();
+        let at = dice.place(stream.len());
+        match dice.below(3) {
+            0 => stream[at] = dice.any() as u8,
+            1 => {
+                stream.remove(at);
+            }
+            _ => stream.insert(at, dice.any() as u8),
+        }
+        let (whole_first, whole) = followed(&stream, usize::MAX, &mut dice);
+        let (first, line) = followed(&stream, 3_000, &mut dice);
+        assert_eq!((first, line.feed(), line.units()), (whole_first, whole.feed(), whole.units()));
+        assert_eq!((line.reason(8), line.books().words()), (whole.reason(8), whole.books().words()));
+        met.insert(first.map(Answer::number));
+    }
+    assert!(met.len() >= 5, "refusals met: {:?}", met);
+}
+
 #[test]
 fn each_unit_is_shown() {
     let bytes = session_bytes(0, &[(1, bid(5, 1, 100)), (1, bid(5, 1, 100)), (2, message(40, 12))]);
