@@ -1,26 +1,43 @@
 #!/usr/bin/env bash
-# Builds the Rust side into target/rust with plain rustc, against target/staticlib/libscreen.a, and runs a part of it.
+# Builds the Rust side into target/rust with cargo, over target/staticlib/libscreen.a, and runs a part of it.
 # The archive is x86-64. On an Arm machine all of it is built for x86-64 and run under an emulator, but for bench: there
 # the library is compiled for Arm (rust/bench/arm.sh), since times under an emulator mean nothing.
 set -u
 cd "$(dirname "$0")/.." || exit 1
-out=target/rust
+root=$PWD
+out=$root/target/rust
+target=x86_64-unknown-linux-gnu
+bin=$out/$target/release
 archive=target/staticlib/libscreen.a
+packages="cargo rustc rustfmt rust-clippy libstd-rust-dev:amd64 gcc-x86-64-linux-gnu libc6-dev-amd64-cross qemu-user"
+settings=()
 
 usage() {
     cat <<'END'
 usage: bash rust/build.sh PART
 
-  test [..]         the comparisons; the last line is 'N passed, 0 failed'
+  paint [..]        panels from a capture (--help)
+  timeline [..]     every change of the badge in a capture with times (--help)
+  script FILE       runs a script of calls (docs/SCRIPTS.md)
+  capture [FILE]    writes captures/morning.bin and its times anew
   bench [--short]   nanoseconds a message of the library, the plain twin and the tuned one, taking turns, at 128, 512 and
                     4,096 slots; --short only looks whether all three end with the same table. On Arm the library's own
                     code is compiled for Arm, and no emulator runs; the library is proved first where it is not yet
   count [SLOTS..]   x86-64 instructions a message of the same three, under an emulator; about ten minutes
-  paint [..]        six panels from a capture (--help)
-  capture [FILE]    writes captures/morning.bin anew
+  env               the settings with which cargo builds for the archive, as lines for a shell
+
+What the gate runs, each with 'N passed, M failed' as its last line:
+
+  test [..]         the library against the twin, call by call
+  cover [NAME]      the cover's own tests and the examples in its documentation, those that have NAME in theirs
+  scripts           vectors/scripts, and scripts that must be refused
+  timelines         what the timeline prints of tests/timeline and of the morning
+  panels            the painter as it is run: options, files, terminals, docs/panels.svg
+  user              a package as a user would write one, over rust/mmdh
+  lint              rustfmt --check and clippy, warnings denied
   header            include/mmdh.h from a C program
 
-All but capture, and bench on Arm, need target/staticlib/libscreen.a: run 'rt staticlib screen' first.
+All but capture, env, and bench on Arm, need target/staticlib/libscreen.a: run 'rt staticlib screen' first.
 END
 }
 
@@ -29,96 +46,154 @@ fail() {
     exit 1
 }
 
-# Installs Debian packages by name, where they are missing.
-install() {
-    echo "installing $*" >&2
-    command -v apt-get >/dev/null 2>&1 || fail "no apt-get on this machine; these are needed: $*"
-    { apt-get update && apt-get install -y "$@"; } >"$out/apt.log" 2>&1 || fail "could not install $* (see $out/apt.log)"
-}
-
-# x86-64: the machine's own compiler.
+# x86-64: the machine's own tools.
 native() {
-    command -v rustc >/dev/null 2>&1 || fail "no rustc on this machine"
-    rustc=rustc
+    command -v cargo >/dev/null 2>&1 || fail "no cargo on this machine"
+    cargo=cargo
     cc=(cc)
-    flags=()
     run=()
 }
 
-# Arm: Debian's compiler for x86-64, static programs, an emulator.
+# Arm: Debian's tools for x86-64, static programs, an emulator.
 emulated() {
-    if ! [ -x /usr/bin/rustc ] || ! [ -d /usr/lib/rustlib/x86_64-unknown-linux-gnu ] ||
-        ! command -v x86_64-linux-gnu-gcc >/dev/null 2>&1 || ! command -v qemu-x86_64 >/dev/null 2>&1; then
-        dpkg --add-architecture amd64 || fail "could not add the architecture amd64 to dpkg"
-        install rustc libstd-rust-dev:amd64 gcc-x86-64-linux-gnu libc6-dev-amd64-cross qemu-user
+    if ! [ -x /usr/bin/cargo ] || ! [ -x /usr/bin/rustc ] || ! [ -x /usr/bin/rustfmt ] || ! [ -x /usr/bin/cargo-clippy ] ||
+        ! [ -d "/usr/lib/rustlib/$target" ] || ! command -v x86_64-linux-gnu-gcc >/dev/null 2>&1 ||
+        ! command -v qemu-x86_64 >/dev/null 2>&1; then
+        echo "installing $packages" >&2
+        # shellcheck disable=SC2086
+        { dpkg --add-architecture amd64 && apt-get update && apt-get install -y $packages; } >"$out/apt.log" 2>&1 ||
+            fail "could not install $packages (see target/rust/apt.log)"
     fi
-    rustc=/usr/bin/rustc
+    cargo=/usr/bin/cargo
     cc=(x86_64-linux-gnu-gcc -static)
+    run=(qemu-x86_64)
     # the cross package's libm.a is a script with paths of another machine
     mkdir -p "$out/x86"
     for libm in /usr/x86_64-linux-gnu/lib/libm-[0-9]*.a; do
         [ -e "$libm" ] && ln -sf "$libm" "$out/x86/libm.a"
     done
-    flags=(--target x86_64-unknown-linux-gnu -C linker=x86_64-linux-gnu-gcc -C target-feature=+crt-static
-        -C relocation-model=static -L "native=$out/x86")
-    run=(qemu-x86_64)
+    # Debian's tools before others of the same names
+    settings=("PATH=/usr/bin:/bin:$PATH" CARGO=/usr/bin/cargo RUSTC=/usr/bin/rustc RUSTDOC=/usr/bin/rustdoc
+        CARGO_TARGET_X86_64_UNKNOWN_LINUX_GNU_LINKER=x86_64-linux-gnu-gcc
+        CARGO_TARGET_X86_64_UNKNOWN_LINUX_GNU_RUNNER=qemu-x86_64
+        "CARGO_TARGET_X86_64_UNKNOWN_LINUX_GNU_RUSTFLAGS=-C target-feature=+crt-static -C relocation-model=static -L native=$out/x86")
 }
 
-# Arm, for times: the machine's own compiler, and the library's code compiled for Arm.
+# Arm, for times: the machine's own tools, and the library's code compiled for Arm.
 timed() {
-    out=target/rust/arm
-    archive=$out/libscreen.a
-    mkdir -p "$out" || fail "cannot make $out"
-    if ! command -v rustc >/dev/null 2>&1 || ! command -v cc >/dev/null 2>&1; then install rustc gcc libc6-dev; fi
-    native
+    local tool
+    for tool in cargo rustc cc; do
+        if ! command -v $tool >/dev/null 2>&1; then
+            echo "installing cargo rustc gcc libc6-dev" >&2
+            { apt-get update && apt-get install -y cargo rustc gcc libc6-dev; } >"$out/apt.log" 2>&1 ||
+                fail "could not install cargo rustc gcc libc6-dev (see target/rust/apt.log)"
+        fi
+    done
     bash rust/bench/arm.sh || fail "the library could not be compiled for Arm"
+    (cd rust && MMDH_ARCHIVE=$out/arm/libscreen.a CARGO_TARGET_DIR=$out/arm/cargo cargo build --offline --quiet --release -p bench) ||
+        fail "cargo could not build bench for Arm"
     echo "the library's code compiled for Arm, the twins by $(rustc --version | cut -d' ' -f1,2)"
 }
 
-compile() {
-    "$rustc" --edition 2021 -C opt-level=3 -C codegen-units=1 "${flags[@]}" --out-dir "$out" -L "$out" "$@" ||
-        fail "rustc failed on ${*: -1}"
+# cargo with its settings, for the archive's target and into our folder.
+with_cargo() {
+    env ${settings[@]+"${settings[@]}"} CARGO_BUILD_TARGET="$target" CARGO_TARGET_DIR="$out" "$cargo" "$@"
 }
 
-library() {
-    compile --crate-type rlib --crate-name "$1" "${@:2}" "rust/$1/lib.rs"
+# Builds some programs of the Rust side.
+programs() {
+    local name words=()
+    for name in "$@"; do words+=(-p "$name"); done
+    (cd rust && with_cargo build --offline --quiet --release "${words[@]}") || fail "cargo could not build $*"
 }
 
-program() {
-    local name=$1 crate externs=()
-    for crate in "${@:2}"; do externs+=(--extern "$crate=$out/lib$crate.rlib"); done
-    compile --crate-name "$name" "${externs[@]}" "rust/$name/main.rs"
-}
-
-over_archive() {
+has_archive() {
     [ -f "$archive" ] || fail "no $archive; run rt staticlib screen first"
-    library mmdh -L "native=$(dirname "$archive")" -l static=screen
 }
 
-# The examples in the documentation. To run them under an emulator is an option that rustdoc calls unstable.
-documentation() {
-    command -v rustdoc >/dev/null 2>&1 || fail "no rustdoc on this machine"
-    local doc=(rustdoc)
-    [ ${#run[@]} -eq 0 ] || doc=(env RUSTC_BOOTSTRAP=1 /usr/bin/rustdoc -Z unstable-options --runtool "${run[@]}")
-    "${doc[@]}" --test --edition 2021 --crate-name mmdh "${flags[@]}" -L "$out" --extern "mmdh=$out/libmmdh.rlib" rust/mmdh/lib.rs \
-        >"$out/rustdoc.log" 2>&1 || { cat "$out/rustdoc.log" >&2; fail "an example in the documentation failed"; }
-    echo "examples in the documentation: $(grep -c '^test .* ok$' "$out/rustdoc.log") ok"
+# How many tests the logs of cargo and rustdoc say passed.
+count() { # passed|failed LOG..
+    local word=$1
+    shift
+    cat "$@" | sed -n "s/^test result: .* \([0-9]*\) $word;.*/\1/p" | awk '{ n += $1 } END { print n + 0 }'
 }
 
-# The capture is what its program writes, and painted it fills, goes green and goes stale.
-painted() {
-    "${run[@]}" "$out/capture" "$out/morning.bin" >/dev/null || fail "the capture could not be written"
-    cmp -s "$out/morning.bin" captures/morning.bin || fail "captures/morning.bin is not what rust/capture writes"
-    local badges
-    badges=$("${run[@]}" "$out/paint" --plain "$out/morning.bin" | grep -oE 'filling|green|stale' | uniq | tr '\n' ' ')
-    [ "$badges" = "filling green stale green stale " ] || fail "the badges of the capture were: $badges"
-    echo "captures/morning.bin painted: $badges"
+# The cover's tests, and the examples in its documentation: to run those under an emulator is an option that rustdoc calls unstable.
+cover() {
+    local doc=(rustdoc) bad=0
+    [ ${#run[@]} -eq 0 ] || doc=(env RUSTC_BOOTSTRAP=1 "${settings[@]}" /usr/bin/rustdoc -Z unstable-options --runtool "${run[@]}"
+        -C linker=x86_64-linux-gnu-gcc -C target-feature=+crt-static -C relocation-model=static -L "native=$out/x86")
+    (cd rust && with_cargo test --offline --quiet --release --no-fail-fast -p mmdh -p timeline -p paint -- "$@") >"$out/cover.log" 2>&1 || bad=1
+    "${doc[@]}" --test --edition 2021 --crate-name mmdh --target "$target" -L "dependency=$bin/deps" \
+        --extern "mmdh=$bin/libmmdh.rlib" ${1+--test-args "$1"} rust/mmdh/lib.rs >"$out/rustdoc.log" 2>&1 || bad=1
+    [ $bad -eq 0 ] || cat "$out/cover.log" "$out/rustdoc.log"
+    echo "$(count passed "$out/cover.log" "$out/rustdoc.log") passed, $(count failed "$out/cover.log" "$out/rustdoc.log") failed"
+    return $bad
+}
+
+# The capture and its times are what their program writes.
+recorded() {
+    local ending
+    "${run[@]}" "$bin/capture" "$out/morning.bin" >/dev/null || fail "the capture could not be written"
+    for ending in bin times; do
+        cmp -s "$out/morning.$ending" "captures/morning.$ending" || fail "captures/morning.$ending is not what rust/capture writes"
+    done
+    echo "captures/morning.bin and morning.times are what rust/capture writes"
+}
+
+# Every timeline, in words and for a spreadsheet, is what stands beside its times.
+timelines() {
+    local times name passed=0 failed=0
+    for times in captures/morning.times tests/timeline/*.times; do
+        name=tests/timeline/$(basename "$times" .times)
+        checks same "$name.out" "${run[@]}" "$bin/timeline" "$times"
+        checks same "$name.csv" "${run[@]}" "$bin/timeline" "$times" --csv
+    done
+    # the README shows the morning's
+    checks same tests/timeline/morning.out sed -n 's/^    \(06:00:.*\)/\1/p' README.md
+    echo "$passed passed, $failed failed"
+    [ "$failed" -eq 0 ]
+}
+
+# What a command prints is what a file has.
+same() { # FILE COMMAND..
+    "${@:2}" | diff - "$1" && return
+    echo "differs from $1"
+    return 1
+}
+
+# One check of the sources.
+checks() { # COMMAND..
+    if "$@"; then passed=$((passed + 1)); else failed=$((failed + 1)); fi
+}
+
+lint() {
+    local fmt=rustfmt manifest passed=0 failed=0
+    [ ${#run[@]} -eq 0 ] || fmt=/usr/bin/rustfmt
+    command -v "$fmt" >/dev/null 2>&1 || fail "no rustfmt on this machine"
+    # shellcheck disable=SC2046
+    checks "$fmt" --check --edition 2021 --config-path rust/rustfmt.toml $(find rust tests -name '*.rs')
+    for manifest in rust/Cargo.toml tests/user/Cargo.toml; do
+        if env ${settings[@]+"${settings[@]}"} cargo-clippy --version >/dev/null 2>&1; then
+            checks env ${settings[@]+"${settings[@]}"} CARGO_TARGET_DIR="$out/lint" cargo-clippy clippy --offline --quiet --all-targets \
+                --target "$target" --manifest-path "$manifest" -- -D warnings
+        else
+            echo "no clippy on this machine: $manifest by the compiler's warnings only"
+            checks env ${settings[@]+"${settings[@]}"} CARGO_TARGET_DIR="$out/lint" RUSTFLAGS="-D warnings" "$cargo" check --offline --quiet \
+                --target "$target" --manifest-path "$manifest"
+        fi
+    done
+    # the documentation has no warnings either
+    checks env ${settings[@]+"${settings[@]}"} CARGO_TARGET_DIR="$out/lint" RUSTDOCFLAGS="-D warnings" "$cargo" doc --offline --quiet --no-deps \
+        --target "$target" --manifest-path rust/mmdh/Cargo.toml
+    echo "$passed passed, $failed failed"
+    [ "$failed" -eq 0 ]
 }
 
 part=${1:-}
 [ $# -gt 0 ] && shift
 case $part in
-    test | bench | count | paint | capture | header) ;;
+    test | cover | scripts | timelines | panels | user | lint | header | bench | count | paint | timeline | script | capture | env) ;;
     -h | --help | help) usage && exit ;;
     *) usage >&2 && exit 1 ;;
 esac
@@ -132,36 +207,71 @@ esac
 
 case $part in
     test)
-        library twin && library exchange && over_archive
-        program tests twin exchange mmdh && program bench twin exchange mmdh
-        program paint mmdh && program capture exchange
-        documentation
-        painted
-        "${run[@]}" "$out/bench" --short || fail "the benchmark failed"
-        "${run[@]}" "$out/tests" "$@"
+        has_archive
+        programs tests bench capture
+        recorded
+        "${run[@]}" "$bin/bench" --short || fail "the benchmark failed"
+        "${run[@]}" "$bin/tests" "$@"
+        ;;
+    cover)
+        has_archive
+        programs mmdh
+        cover "$@"
+        ;;
+    scripts)
+        has_archive
+        programs script
+        "${run[@]}" "$bin/script" --check vectors/scripts tests/scripts
+        ;;
+    timelines)
+        has_archive
+        programs timeline
+        timelines
+        ;;
+    panels)
+        has_archive
+        programs paint
+        bash tests/panels "${run[@]}" "$bin/paint"
+        ;;
+    user)
+        has_archive
+        env ${settings[@]+"${settings[@]}"} bash tests/user/check "$cargo" "$out/user" ${run[@]+"${run[@]}"}
+        ;;
+    lint)
+        has_archive
+        lint
         ;;
     bench)
-        library twin && library exchange && over_archive
-        program bench twin exchange mmdh
-        "$out/bench" "$@"
+        if [ "$(uname -m)" = aarch64 ]; then
+            "$out/arm/cargo/release/bench" "$@"
+        else
+            has_archive
+            programs bench
+            "$bin/bench" "$@"
+        fi
         ;;
     count)
-        library twin && library exchange && over_archive
-        program bench twin exchange mmdh
-        "${run[@]}" "$out/bench" --short && bash rust/bench/count.sh "$@"
+        has_archive
+        programs bench
+        "${run[@]}" "$bin/bench" --short && bash rust/bench/count.sh "$@"
         ;;
-    paint)
-        over_archive && program paint mmdh
-        "${run[@]}" "$out/paint" "$@"
+    paint | timeline | script)
+        has_archive
+        programs "$part"
+        "${run[@]}" "$bin/$part" "$@"
         ;;
     capture)
-        library exchange && program capture exchange
-        "${run[@]}" "$out/capture" "$@"
+        programs capture
+        "${run[@]}" "$bin/capture" "$@"
         ;;
     header)
-        [ -f "$archive" ] || fail "no $archive; run rt staticlib screen first"
+        has_archive
         "${cc[@]}" -std=c11 -Wall -Wextra -pedantic -Werror -Iinclude -o "$out/header" tests/header/main.c "$archive" ||
             fail "the C compiler failed on tests/header/main.c"
         "${run[@]}" "$out/header" vectors/example10.in
+        ;;
+    env)
+        [ ${#run[@]} -eq 0 ] || settings+=("CARGO_BUILD_TARGET=$target")
+        for setting in ${settings[@]+"${settings[@]}"}; do printf "export %s='%s'\n" "${setting%%=*}" "${setting#*=}"; done
         ;;
 esac

@@ -5,7 +5,7 @@
 # 'bash rust/build.sh count [SLOTS..]' builds the benchmark for x86-64 and runs this.
 set -u
 cd "$(dirname "$0")/../.." || exit 1
-bench=target/rust/bench
+bench=target/rust/x86_64-unknown-linux-gnu/release/bench
 if [ ! -x "$bench" ]; then
     echo "count: no $bench; run bash rust/build.sh count" >&2
     exit 1

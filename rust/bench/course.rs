@@ -29,7 +29,7 @@ pub struct Course {
 }
 
 /// Where a walk ended.
-#[derive(PartialEq)]
+#[derive(PartialEq, Eq)]
 pub struct End {
     pub taken: usize,
     table: Vec<u64>,

@@ -1,4 +1,4 @@
-//! Writes a capture: one connection's bytes of a believable morning, the same every time.
+//! Writes a capture: one connection's bytes of a believable morning, the same every time, and beside it their times.
 //! Hub up about six, books fill, badges go green; once the line falls quiet, and in the end for good.
 
 #![forbid(unsafe_code)]
@@ -27,9 +27,14 @@ const LISTED: [(u32, i32); 48] = [
     (2318, 54_100), (2800, 24_660), (3690, 168_500), (3988, 4_410), (9988, 119_300),
 ];
 
+/// How long the recorder listens after the last unit.
+const AFTER: u64 = 5_000;
+
 /// A line: what has been sent so far, and when.
 struct Line {
     bytes: Vec<u8>,
+    /// Times, and how many bytes came at each.
+    times: Vec<(u64, usize)>,
     seq: u32,
     internal: u32,
     time: u64,
@@ -43,6 +48,18 @@ impl Line {
     fn push(&mut self, seq: u32, internal: u32, message: &[u8]) {
         self.bytes.extend_from_slice(&header(seq, internal, message.len(), self.time * 1_000_000));
         self.bytes.extend_from_slice(message);
+        let length = exchange::HEADER + message.len();
+        match self.times.last_mut() {
+            Some((time, bytes)) if *time == self.time => *bytes += length,
+            _ => self.times.push((self.time, length)),
+        }
+    }
+
+    /// The capture's times, line by line (docs/CAPTURES.md).
+    fn recorded(&self) -> String {
+        let head = format!("# one connection of a morning: when its bytes came\n{} connect fresh\n", HUB_UP);
+        let lines = self.times.iter().map(|(time, bytes)| format!("{} bytes {}\n", time, bytes));
+        head + &lines.collect::<String>() + &format!("{} end\n", self.time + AFTER)
     }
 
     /// A counted message without an internal number.
@@ -133,9 +150,9 @@ fn pause(line: &mut Line, heartbeats: usize) {
     }
 }
 
-fn morning() -> Vec<u8> {
+fn morning() -> Line {
     let mut market = Market::new(SEED, &LISTED);
-    let mut line = Line { bytes: Vec::new(), seq: 0, internal: 0, time: HUB_UP };
+    let mut line = Line { bytes: Vec::new(), times: Vec::new(), seq: 0, internal: 0, time: HUB_UP };
     log_on(&mut line);
     refresh(&mut line, &mut market);
     trade(&mut line, &mut market, 350);
@@ -146,18 +163,24 @@ fn morning() -> Vec<u8> {
     line.heartbeat();
     trade(&mut line, &mut market, 350);
     pause(&mut line, 2);
-    line.bytes
+    line
+}
+
+fn write(file: &Path, bytes: &[u8]) {
+    if let Err(fault) = std::fs::write(file, bytes) {
+        eprintln!("capture: {}: {}", file.display(), fault);
+        exit(1);
+    }
+    println!("{}: {} bytes", file.display(), bytes.len());
 }
 
 fn main() {
     let file = std::env::args().nth(1).unwrap_or_else(|| FILE.to_string());
-    let bytes = morning();
-    if let Some(folder) = Path::new(&file).parent() {
+    let file = Path::new(&file);
+    let line = morning();
+    if let Some(folder) = file.parent() {
         let _ = std::fs::create_dir_all(folder);
     }
-    if let Err(fault) = std::fs::write(&file, &bytes) {
-        eprintln!("capture: {}: {}", file, fault);
-        exit(1);
-    }
-    println!("{}: {} bytes", file, bytes.len());
+    write(file, &line.bytes);
+    write(&file.with_extension("times"), line.recorded().as_bytes());
 }

@@ -1,16 +1,19 @@
-//! Document 01's answers.
+//! Document 01's answers, and the refusals among them.
 
+use std::error::Error;
 use std::fmt;
 
-/// What a call answers. The numbers are document 01's.
+/// What a call answers. The numbers are document 01's; more may come.
 ///
 /// ```
 /// use mmdh::Answer;
 /// assert_eq!(Answer::NotNext.number(), 13);
 /// assert!(Answer::Seen.is_accepted() && !Answer::More.is_accepted());
+/// assert!(Answer::More.or_refused().is_ok() && Answer::NotNext.or_refused().is_err());
 /// assert_eq!(Answer::NotNext.to_string(), "the sequence number is not the next");
 /// ```
 #[must_use]
+#[non_exhaustive]
 #[derive(Clone, Copy, PartialEq, Eq, Hash, Debug)]
 pub enum Answer {
     /// 0: taken; a connect or a new feed accepted; a row read.
@@ -21,7 +24,7 @@ pub enum Answer {
     Passed,
     /// 3: no whole unit yet; hand in the same bytes again with more behind them.
     More,
-    /// 4: no book for the code, or no such row in it.
+    /// 4: there is no book for the code, or no such row in it.
     NoRow,
     /// 10: the time lies before the last heard time.
     Early,
@@ -53,7 +56,7 @@ const SENTENCES: [(u64, Answer, &str); 16] = [
     (1, Answer::Seen, "seen before"),
     (2, Answer::Passed, "passed over"),
     (3, Answer::More, "more bytes are needed for a whole unit"),
-    (4, Answer::NoRow, "there is no such row"),
+    (4, Answer::NoRow, "there is no such book, or no such row in it"),
     (10, Answer::Early, "the time is before the last heard time"),
     (11, Answer::NotOpen, "the feed is not open for arrivals"),
     (12, Answer::WrongSize, "the message has a wrong size"),
@@ -76,6 +79,15 @@ impl Answer {
     /// Whether this is 0, 1 or 2.
     pub fn is_accepted(self) -> bool {
         matches!(self, Answer::Taken | Answer::Seen | Answer::Passed)
+    }
+
+    /// The answer itself where it is 0 to 3: accepted, or only waiting for more bytes. Else the refusal.
+    pub fn or_refused(self) -> Result<Answer, Refused> {
+        if self.is_accepted() || self == Answer::More {
+            Ok(self)
+        } else {
+            Err(Refused(self))
+        }
     }
 
     /// The answer with this number, if there is one.
@@ -106,3 +118,29 @@ impl fmt::Display for Answer {
         f.pad(self.entry().2)
     }
 }
+
+/// A call was refused: an answer of 4 or above, never one that is accepted and never More.
+///
+/// ```
+/// use mmdh::{Answer, Line};
+/// let refused = Line::new(0, 128).unwrap_err();
+/// assert_eq!(refused.answer(), Answer::BadLimit);
+/// assert_eq!(refused.to_string(), "the silence limit is outside 1 to 600,000 ms (answer 19)");
+/// ```
+#[derive(Clone, Copy, PartialEq, Eq, Hash, Debug)]
+pub struct Refused(Answer);
+
+impl Refused {
+    /// The answer that the call got.
+    pub fn answer(self) -> Answer {
+        self.0
+    }
+}
+
+impl fmt::Display for Refused {
+    fn fmt(&self, f: &mut fmt::Formatter<'_>) -> fmt::Result {
+        write!(f, "{} (answer {})", self.0, self.0.number())
+    }
+}
+
+impl Error for Refused {}

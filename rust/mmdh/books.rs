@@ -1,11 +1,13 @@
 //! The books: a table of 64-bit words, owned or lent, and the rows in it.
 
+use crate::later::{self, MmdhLevel, ROWS};
 use crate::raw;
-use crate::Answer;
+use crate::{Answer, Refused};
+use std::fmt;
+use std::ops::Deref;
 
 const SLOT: usize = 64;
 const SLOTS: usize = 4096;
-const ROWS: u64 = 10;
 
 /// Which side of a book.
 #[derive(Clone, Copy, PartialEq, Eq, Hash, Debug)]
@@ -25,8 +27,9 @@ impl Side {
     }
 }
 
-/// One row of a side.
-#[derive(Clone, Copy, PartialEq, Eq, Hash, Debug)]
+/// One row of a side. More may come to stand in it.
+#[non_exhaustive]
+#[derive(Clone, Copy, PartialEq, Eq, Hash, Debug, Default)]
 pub struct Row {
     /// Thousandths of a dollar, signed as sent.
     pub price: i64,
@@ -41,16 +44,16 @@ enum Words<'a> {
     Lent(&'a mut [u64]),
 }
 
-/// A table of books.
+/// A table of books, to be read. A [`Line`](crate::Line) has its own; only whoever makes single calls makes one.
 ///
 /// ```
 /// use mmdh::{Answer, Books, Side};
 ///
 /// let books = Books::with_slots(128);
 /// assert_eq!(books.slots(), 128);
-/// assert_eq!(books.row(700, Side::Bid, 1), Err(Answer::NoRow));
-/// assert_eq!(books.row(700, Side::Bid, 11), Err(Answer::NotListed));
-/// assert_eq!(books.bids(700).count(), 0);
+/// assert_eq!(books.row(700, Side::Bid, 1).unwrap_err().answer(), Answer::NoRow);
+/// assert_eq!(books.row(700, Side::Bid, 11).unwrap_err().answer(), Answer::NotListed);
+/// assert_eq!(books.bids(700).unwrap_err().answer(), Answer::NoRow);
 /// assert_eq!(books.codes().count(), 0);
 ///
 /// // or over words that belong to the caller
@@ -94,28 +97,29 @@ impl<'a> Books<'a> {
         }
     }
 
-    /// One row, rank 1 the best; 15, 4 or 18 where there is none to read.
-    pub fn row(&self, code: u64, side: Side, rank: u64) -> Result<Row, Answer> {
+    /// One row, rank 1 the best; refused with 15, 4 or 18 where there is none to read.
+    pub fn row(&self, code: u64, side: Side, rank: u64) -> Result<Row, Refused> {
         let read = raw::read_row(self.words(), code, side.number(), rank);
-        match Answer::given(read.answer) {
-            Answer::Taken => Ok(Row { price: read.price, quantity: read.quantity, orders: read.orders }),
-            refused => Err(refused),
-        }
+        let row = Row { price: read.price, quantity: read.quantity, orders: read.orders };
+        Answer::given(read.answer).or_refused().map(|_| row)
     }
 
-    /// The rows of one side, best first. A book that is not sound shows none; [`Books::row`] says why.
-    pub fn rows(&self, code: u64, side: Side) -> Rows<'_> {
-        Rows { words: self.words(), code, side, rank: 0 }
+    /// The rows of one side at once, best first; refused with 15 where there is no such code, 4 where it has no book,
+    /// 18 where its book is not sound. A book with an empty side is none of these: it has no rows.
+    pub fn side(&self, code: u64, side: Side) -> Result<Rows, Refused> {
+        let read = later::read_side(self.words(), code, side.number());
+        let rows = Rows { rows: read.row.map(Row::of), count: read.count as usize };
+        Answer::given(read.answer).or_refused().map(|_| rows)
     }
 
     /// The bids of a book, best first.
-    pub fn bids(&self, code: u64) -> Rows<'_> {
-        self.rows(code, Side::Bid)
+    pub fn bids(&self, code: u64) -> Result<Rows, Refused> {
+        self.side(code, Side::Bid)
     }
 
     /// The offers of a book, best first.
-    pub fn offers(&self, code: u64) -> Rows<'_> {
-        self.rows(code, Side::Offer)
+    pub fn offers(&self, code: u64) -> Result<Rows, Refused> {
+        self.side(code, Side::Offer)
     }
 
     /// The codes that have a slot, in slot order.
@@ -125,30 +129,45 @@ impl<'a> Books<'a> {
     }
 }
 
-/// The rows of one side, best first.
-#[derive(Clone)]
-pub struct Rows<'a> {
-    words: &'a [u64],
-    code: u64,
-    side: Side,
-    rank: u64,
-}
-
-impl Iterator for Rows<'_> {
-    type Item = Row;
-
-    fn next(&mut self) -> Option<Row> {
-        if self.rank == ROWS {
-            return None;
-        }
-        let read = raw::read_row(self.words, self.code, self.side.number(), self.rank + 1);
-        if read.answer != 0 {
-            self.rank = ROWS;
-            return None;
-        }
-        self.rank += 1;
-        Some(Row { price: read.price, quantity: read.quantity, orders: read.orders })
+impl fmt::Debug for Books<'_> {
+    fn fmt(&self, f: &mut fmt::Formatter<'_>) -> fmt::Result {
+        let codes: Vec<u64> = self.codes().collect();
+        f.debug_struct("Books").field("slots", &self.slots()).field("codes", &codes).finish()
     }
 }
 
-impl std::iter::FusedIterator for Rows<'_> {}
+impl Row {
+    fn of(level: MmdhLevel) -> Row {
+        Row { price: level.price, quantity: level.quantity, orders: level.orders }
+    }
+}
+
+/// The rows of one side, best first: none to ten of them, as a slice.
+#[derive(Clone, Copy, PartialEq, Eq)]
+pub struct Rows {
+    rows: [Row; ROWS],
+    count: usize,
+}
+
+impl Deref for Rows {
+    type Target = [Row];
+
+    fn deref(&self) -> &[Row] {
+        &self.rows[..self.count]
+    }
+}
+
+impl fmt::Debug for Rows {
+    fn fmt(&self, f: &mut fmt::Formatter<'_>) -> fmt::Result {
+        f.debug_list().entries(self.iter()).finish()
+    }
+}
+
+impl<'a> IntoIterator for &'a Rows {
+    type Item = &'a Row;
+    type IntoIter = std::slice::Iter<'a, Row>;
+
+    fn into_iter(self) -> Self::IntoIter {
+        self.iter()
+    }
+}

@@ -1,8 +1,7 @@
-//! One feed, and the badge that it has earned.
+//! One feed by its single calls, and the badge that it has earned.
 
 use crate::raw::{self, MmdhFeed, MmdhGiven};
-use crate::{Answer, Books};
-use std::error::Error;
+use crate::{later, Answer, Books, Refused, Why};
 use std::fmt;
 
 /// Where a feed stands.
@@ -27,11 +26,11 @@ pub enum Phase {
 /// What the corner of a panel shows.
 ///
 /// ```
-/// use mmdh::{Badge, Feed};
-/// let feed = Feed::new(1_000)?;
-/// assert_eq!(feed.badge(0), Badge::Stale);
+/// use mmdh::{Badge, Line};
+/// let line = Line::new(1_000, 128)?;
+/// assert_eq!(line.badge(0), Badge::Stale);
 /// assert_eq!(Badge::Green.number(), 1);
-/// # Ok::<(), mmdh::LimitRefused>(())
+/// # Ok::<(), mmdh::Refused>(())
 /// ```
 #[derive(Clone, Copy, PartialEq, Eq, Hash, Debug)]
 pub enum Badge {
@@ -75,6 +74,7 @@ pub enum Connect {
 
 /// What an arrival of bytes comes to.
 #[must_use]
+#[non_exhaustive]
 #[derive(Clone, Copy, PartialEq, Eq, Debug)]
 pub struct Arrival {
     /// The answer.
@@ -83,81 +83,56 @@ pub struct Arrival {
     pub used: usize,
 }
 
-/// A silence limit outside 1 to 600,000 ms (answer 19), with the feed that is handed back all the same.
-///
-/// ```
-/// use mmdh::{Answer, Feed};
-/// let refused = Feed::new(0).unwrap_err();
-/// assert_eq!(refused.answer(), Answer::BadLimit);
-/// assert_eq!(refused.into_feed().limit(), 1_000);
-/// ```
-#[derive(Clone, PartialEq, Eq, Debug)]
-pub struct LimitRefused(Feed);
-
-impl LimitRefused {
-    /// Always [`Answer::BadLimit`].
-    pub fn answer(&self) -> Answer {
-        Answer::BadLimit
-    }
-
-    /// The new feed with a limit of 1,000 ms; it can be used.
-    pub fn into_feed(self) -> Feed {
-        self.0
-    }
-}
-
-impl fmt::Display for LimitRefused {
-    fn fmt(&self, f: &mut fmt::Formatter<'_>) -> fmt::Result {
-        self.answer().fmt(f)
-    }
-}
-
-impl Error for LimitRefused {}
-
 /// One feed: what is known of a line, and whether its books may be shown as live.
 ///
-/// Hand the feed the table that it has filled so far, at every call the same one.
-/// A feed is no `Copy`: its state after a call is the only one to go on with.
+/// These are single calls; [`Line`](crate::Line) makes them for you. Whoever makes them keeps two things right by
+/// hand: the same table is lent at every call, and bytes that were not used are handed in again with more behind
+/// them. A feed is neither `Copy` nor `Clone`: its state after a call is the only one to go on with.
 ///
 /// ```
-/// use mmdh::{Badge, Books, Connect, Feed, Phase};
+/// use mmdh::single::Feed;
+/// use mmdh::{Answer, Badge, Books, Connect, Phase};
 ///
 /// let mut feed = Feed::new(1_000)?;
 /// let mut books = Books::with_slots(128);
 /// assert!(feed.connect(Connect::Fresh, 5_000).is_accepted());
 ///
-/// // SendKey (1105) and the logon response (1102) with status 0, each behind its header
+/// // SendKey (1105) and the logon response (1102) with status 0, each behind its header; then a unit cut short
 /// let line = [
 ///     24, 0, 0, 0, 1, 0, 0, 0, 0, 0, 0, 0, 0, 0, 0, 0, 0, 0, 0, 0, 4, 0, 0x51, 4,
 ///     28, 0, 0, 0, 2, 0, 0, 0, 0, 0, 0, 0, 0, 0, 0, 0, 0, 0, 0, 0, 8, 0, 0x4E, 4, 0, 0, 0, 0,
+///     20, 0, 0,
 /// ];
 /// let mut at = 0;
 /// loop {
 ///     let arrival = feed.arrive(&mut books, &line[at..], 5_000);
-///     if !arrival.answer.is_accepted() {
-///         break; // More: wait for the line
+///     match arrival.answer.or_refused() {
+///         Ok(Answer::More) => break,            // wait for the line, and hand in what is left again
+///         Ok(_) => at += arrival.used,          // taken, seen or passed: go on behind it
+///         Err(refused) => return Err(refused),  // lost or closed: nothing more will be taken, connect anew
 ///     }
-///     at += arrival.used;
 /// }
+/// assert_eq!(line[at..], [20, 0, 0]);
 /// assert_eq!(feed.phase(), Phase::Live);
 /// assert_eq!(feed.badge(6_000), Badge::Green);
 /// assert_eq!(feed.badge(6_001), Badge::Stale);
-/// # Ok::<(), mmdh::LimitRefused>(())
+/// # Ok::<(), mmdh::Refused>(())
 /// ```
-#[derive(Clone, PartialEq, Eq, Debug)]
+///
+/// ```compile_fail,E0277
+/// fn goes_on_twice<T: Clone>() {}
+/// goes_on_twice::<mmdh::single::Feed>();
+/// ```
+#[derive(PartialEq, Eq, Debug)]
 pub struct Feed {
     plain: MmdhFeed,
 }
 
 impl Feed {
-    /// A new feed with a silence limit of 1 to 600,000 ms.
-    pub fn new(limit: u64) -> Result<Feed, LimitRefused> {
+    /// A new feed with a silence limit of 1 to 600,000 ms; any other limit is refused with 19.
+    pub fn new(limit: u64) -> Result<Feed, Refused> {
         let given = raw::new(limit);
-        let feed = Feed { plain: given.feed };
-        match Answer::given(given.answer) {
-            Answer::Taken => Ok(feed),
-            _ => Err(LimitRefused(feed)),
-        }
+        Answer::given(given.answer).or_refused().map(|_| Feed { plain: given.feed })
     }
 
     /// The line has been connected: 0, or 10 or 20 with the feed unchanged.
@@ -175,13 +150,14 @@ impl Feed {
     /// Works on a message already cut out, with the two numbers of its header.
     ///
     /// ```
-    /// use mmdh::{Answer, Books, Connect, Feed};
+    /// use mmdh::single::Feed;
+    /// use mmdh::{Answer, Books, Connect};
     /// let mut feed = Feed::new(1_000)?;
     /// let mut books = Books::with_slots(1);
     /// assert_eq!(feed.arrive_cut(&mut books, 1, 0, &[4, 0, 0x51, 4], 0), Answer::NotOpen);
     /// assert_eq!(feed.connect(Connect::Fresh, 0), Answer::Taken);
     /// assert_eq!(feed.arrive_cut(&mut books, 1, 0, &[4, 0, 0x51, 4], 0), Answer::Taken);
-    /// # Ok::<(), mmdh::LimitRefused>(())
+    /// # Ok::<(), mmdh::Refused>(())
     /// ```
     pub fn arrive_cut(&mut self, books: &mut Books<'_>, seq: u32, internal: u32, message: &[u8], time: u64) -> Answer {
         let given = raw::arrive_cut(self.plain, books.words_mut(), seq, internal, message, time);
@@ -195,6 +171,11 @@ impl Feed {
             2 => Badge::Filling,
             _ => Badge::Stale,
         }
+    }
+
+    /// Why the badge is what it is at a time.
+    pub fn why(&self, time: u64) -> Why {
+        Why::given(later::why(self.plain.phase, self.plain.heard, self.plain.limit, time))
     }
 
     /// Where the feed stands.
@@ -215,7 +196,7 @@ impl Feed {
         self.plain.next
     }
 
-    /// The last internal number, to log on with when resuming.
+    /// The last internal number.
     pub fn internal(&self) -> u64 {
         self.plain.internal
     }
@@ -238,6 +219,20 @@ impl Feed {
     /// Whether the last accepted connect was fresh.
     pub fn fresh(&self) -> bool {
         self.plain.fresh != 0
+    }
+
+    /// Whether an arrival can be taken: from WaitKey to Live.
+    pub fn is_open(&self) -> bool {
+        !matches!(self.phase(), Phase::Idle | Phase::Lost | Phase::Closed)
+    }
+
+    /// The InternalSeqNum to log on with: 0 after a fresh connect, else the last internal number.
+    pub fn logon_number(&self) -> u64 {
+        if self.fresh() {
+            0
+        } else {
+            self.internal()
+        }
     }
 
     fn after(&mut self, given: MmdhGiven) -> Answer {

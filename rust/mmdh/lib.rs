@@ -1,37 +1,39 @@
 //! Order books on a screen, with a badge that is green only by right.
 //!
-//! A safe cover over the proved library's C calls. A [`Feed`] takes a line's bytes, [`Books`] are what it fills, and
-//! [`Feed::badge`] is what a panel's corner shows. Each call gets one of document 01's answers, whatever the bytes,
-//! the table and the clock; nobody has to check first.
+//! A safe cover over the proved library's C calls. A [`Line`] takes a line's bytes in any pieces, fills its books and
+//! says what a panel's corner shows, and why. Each call gets one of document 01's answers, whatever the bytes, the
+//! table and the clock; nobody has to check first. [`connection`] tells the life of a connection.
 //!
 //! ```
-//! use mmdh::{Answer, Badge, Books, Connect, Feed, Row, Side};
+//! use mmdh::{Badge, Connect, Line};
 //!
-//! let mut feed = Feed::new(1_000)?;
-//! let mut books = Books::with_slots(128);
-//! let connected = feed.connect(Connect::Fresh, 0);
-//! assert_eq!(connected, Answer::Taken);
-//! assert_eq!(feed.badge(0), Badge::Filling);
+//! let mut line = Line::new(1_000, 128)?;
+//! line.connect(Connect::Fresh, 0)?;
+//! assert_eq!(line.badge(0), Badge::Filling);
 //!
-//! // SendKey, then a logon response with status 0
-//! assert!(feed.arrive_cut(&mut books, 1, 0, &[4, 0, 0x51, 4], 0).is_accepted());
-//! assert!(feed.arrive_cut(&mut books, 2, 0, &[8, 0, 0x4E, 4, 0, 0, 0, 0], 0).is_accepted());
-//! assert_eq!(feed.badge(0), Badge::Green);
+//! // SendKey; a logon response with status 0; code 700, a new bid at level 1: 9.730, 4,000 shares, 2 orders
+//! # let key = [24, 0, 0, 0, 1, 0, 0, 0, 0, 0, 0, 0, 0, 0, 0, 0, 0, 0, 0, 0, 4, 0, 0x51, 4];
+//! # let logon = [28, 0, 0, 0, 2, 0, 0, 0, 0, 0, 0, 0, 0, 0, 0, 0, 0, 0, 0, 0, 8, 0, 0x4E, 4, 0, 0, 0, 0];
+//! # let header = [56, 0, 0, 0, 3, 0, 0, 0, 1, 0, 0, 0, 0, 0, 0, 0, 0, 0, 0, 0];
+//! # let message = [
+//! #     0x24, 0, 0x35, 0, 0xBC, 2, 0, 0, 0, 0, 0, 1, 0xA0, 0x0F, 0, 0, 0, 0, 0, 0, 2, 0x26, 0, 0, 2, 0, 0, 0, 0, 0, 1,
+//! #     0, 0, 0, 0, 0,
+//! # ];
+//! # let bytes = [&key[..], &logon, &header, &message].concat();
+//! for piece in bytes.chunks(50) {
+//!     line.hear(piece, 10)?;
+//! }
+//! assert_eq!(line.badge(10), Badge::Green);
+//! let bids = line.books().bids(700)?;
+//! assert_eq!((bids.len(), bids[0].price, bids[0].quantity, bids[0].orders), (1, 9_730, 4_000, 2));
 //!
-//! // code 700, a new bid at level 1: 9.730, 4,000 shares, 2 orders
-//! let bid = [
-//!     0x24, 0, 0x35, 0, 0xBC, 2, 0, 0, 0, 0, 0, 1, 0xA0, 0x0F, 0, 0, 0, 0, 0, 0, 2, 0x26, 0, 0, 2, 0, 0, 0, 0, 0, 1,
-//!     0, 0, 0, 0, 0,
-//! ];
-//! assert_eq!(feed.arrive_cut(&mut books, 3, 1, &bid, 10), Answer::Taken);
-//! assert_eq!(books.row(700, Side::Bid, 1), Ok(Row { price: 9_730, quantity: 4_000, orders: 2 }));
-//! assert_eq!(books.codes().collect::<Vec<_>>(), [700]);
-//!
-//! // message 5 where 4 was next: the line has a hole, and the badge says so at once
-//! assert_eq!(feed.arrive_cut(&mut books, 5, 2, &bid, 20), Answer::NotNext);
-//! assert_eq!(feed.badge(20), Badge::Stale);
-//! # Ok::<(), mmdh::LimitRefused>(())
+//! // message 3 once more where 4 is next: the line has a hole, and the badge says so at once
+//! assert!(line.hear(&bytes[52..], 20).is_err());
+//! assert_eq!(line.badge(20), Badge::Stale);
+//! # Ok::<(), mmdh::Refused>(())
 //! ```
+//!
+//! Below it, [`single`] has the calls one by one and [`raw`] the C calls themselves.
 
 #![deny(missing_docs)]
 #![deny(unsafe_code)]
@@ -39,9 +41,26 @@
 mod answer;
 mod books;
 mod feed;
+mod later;
+mod line;
 #[allow(unsafe_code)]
 pub mod raw;
+mod why;
 
-pub use answer::Answer;
+pub use answer::{Answer, Refused};
 pub use books::{Books, Row, Rows, Side};
-pub use feed::{Arrival, Badge, Connect, Feed, LimitRefused, Phase};
+pub use feed::{Badge, Connect, Phase};
+pub use line::{Heard, Line, Unit};
+pub use why::{Closing, Loss, Reason, Why};
+
+/// Single calls: a feed without its table and without the bytes not yet used. [`Line`] makes them in the right order;
+/// they are for those who keep tables or bytes in a way of their own.
+pub mod single {
+    pub use crate::feed::{Arrival, Feed};
+}
+
+/// The life of a connection.
+#[cfg(any(doc, doctest))]
+pub mod connection {
+    #![doc = include_str!("../../docs/CONNECTION.md")]
+}

@@ -3,86 +3,111 @@
 pub const HELP: &str = "\
 paint [FILE] [OPTIONS]   panels of order books from a capture, stepping through time
 
-  FILE            the capture: one connection's bytes (captures/morning.bin)
-  --plain         frames one after the other, no cursor movement and no colour
+  FILE            the capture: one connection's bytes (captures/morning.bin); - reads standard input
+  --plain         frames one after the other, with no escapes; so it is too where the output is no terminal,
+                  where NO_COLOR is set and where TERM is dumb
+  --svg FILE      draws one frame to a file instead: the last, or the one that --at says
+  --at MS         only the frame so many milliseconds after the first unit
   --frames N      at most N frames
   --step MS       milliseconds of the morning from frame to frame (500)
-  --pace MS       milliseconds that a frame stays on the terminal (120)
+  --pace MS       milliseconds that a frame stays on a terminal (120)
   --limit MS      the silence limit, 1 to 600,000 (3000)
-  --panels N      how many panels (6)
+  --panels N      how many panels (6, and more where there is room)
   --codes A,B,..  the books to show (the first that have a slot)
-  --rows N        rows of a side, 1 to 10 (5)
-  --width N       columns to paint in (the terminal's, or 132 with --plain)
+  --rows N        most rows of a side, 1 to 10 (10)
+  --width N       columns to paint in (the terminal's, or 132)
+  --height N      lines to paint in (the terminal's, or 60)
   --help          this text
 ";
 
+/// Panels where none are asked for.
+const PANELS: usize = 6;
+
 pub struct Options {
-    pub file: String,
+    pub file: Option<String>,
     pub plain: bool,
     pub help: bool,
+    pub svg: Option<String>,
+    pub at: Option<u64>,
     pub frames: u64,
     pub step: u64,
     pub pace: u64,
     pub limit: u64,
-    pub panels: usize,
+    pub panels: Option<usize>,
     pub codes: Vec<u64>,
     pub rows: usize,
     pub width: Option<usize>,
+    pub height: Option<usize>,
+}
+
+impl Default for Options {
+    fn default() -> Options {
+        Options {
+            file: None,
+            plain: false,
+            help: false,
+            svg: None,
+            at: None,
+            frames: u64::MAX,
+            step: 500,
+            pace: 120,
+            limit: 3_000,
+            panels: None,
+            codes: Vec::new(),
+            rows: 10,
+            width: None,
+            height: None,
+        }
+    }
 }
 
 impl Options {
     /// The options in the command's words.
     pub fn read(mut words: impl Iterator<Item = String>) -> Result<Options, String> {
-        let mut options = Options {
-            file: "captures/morning.bin".to_string(),
-            plain: false,
-            help: false,
-            frames: u64::MAX,
-            step: 500,
-            pace: 120,
-            limit: 3_000,
-            panels: 6,
-            codes: Vec::new(),
-            rows: 5,
-            width: None,
-        };
+        let mut options = Options::default();
         while let Some(word) = words.next() {
             match word.as_str() {
                 "--plain" => options.plain = true,
                 "--help" | "-h" => options.help = true,
-                name if name.starts_with("--") => {
-                    let value = words.next().ok_or_else(|| format!("{} wants a value (see --help)", name))?;
-                    options.set(name, &value)?;
-                }
-                file => options.file = file.to_string(),
+                name if name.starts_with('-') && name != "-" => options.set(name, &mut words)?,
+                file if options.file.is_none() => options.file = Some(file.to_string()),
+                file => return Err(format!("{} is a file too many (see --help)", file)),
             }
         }
         Ok(options)
     }
 
-    /// How many panels there are.
-    pub fn count(&self) -> usize {
+    /// How many panels are wanted in any case.
+    pub fn wanted(&self) -> usize {
         if self.codes.is_empty() {
-            self.panels
+            self.panels.unwrap_or(PANELS)
         } else {
             self.codes.len()
         }
     }
 
-    fn set(&mut self, name: &str, value: &str) -> Result<(), String> {
+    fn set(&mut self, name: &str, words: &mut impl Iterator<Item = String>) -> Result<(), String> {
+        let known = ["--svg", "--at", "--frames", "--step", "--pace", "--limit", "--panels", "--codes", "--rows"];
+        if !known.contains(&name) && !["--width", "--height"].contains(&name) {
+            return Err(format!("{} is not known (see --help)", name));
+        }
+        let value = words.next().ok_or_else(|| format!("{} wants a value (see --help)", name))?;
+        let within = |least: u64, most: u64| number(name, &value, least, most);
         match name {
-            "--frames" => self.frames = number(name, value, 0, u64::MAX)?,
-            "--step" => self.step = number(name, value, 1, 3_600_000)?,
-            "--pace" => self.pace = number(name, value, 0, 60_000)?,
-            "--limit" => self.limit = number(name, value, 1, 600_000)?,
-            "--panels" => self.panels = number(name, value, 1, 128)? as usize,
-            "--rows" => self.rows = number(name, value, 1, 10)? as usize,
-            "--width" => self.width = Some(number(name, value, 1, 10_000)? as usize),
-            "--codes" => {
+            "--svg" => self.svg = Some(value),
+            "--at" => self.at = Some(within(0, u64::MAX)?),
+            "--frames" => self.frames = within(0, u64::MAX)?,
+            "--step" => self.step = within(1, 3_600_000)?,
+            "--pace" => self.pace = within(0, 60_000)?,
+            "--limit" => self.limit = within(1, 600_000)?,
+            "--panels" => self.panels = Some(within(1, 4_096)? as usize),
+            "--rows" => self.rows = within(1, 10)? as usize,
+            "--width" => self.width = Some(within(1, 10_000)? as usize),
+            "--height" => self.height = Some(within(1, 10_000)? as usize),
+            _ => {
                 let codes = value.split(',').map(|code| number(name, code, 1, 99_999));
                 self.codes = codes.collect::<Result<_, _>>()?;
             }
-            _ => return Err(format!("{} is not known (see --help)", name)),
         }
         Ok(())
     }

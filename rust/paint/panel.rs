@@ -1,153 +1,142 @@
 //! A panel: one book between borders, offers over bids, the badge in its corner.
 
-use crate::options::Options;
-use crate::terminal::Size;
-use mmdh::{Badge, Books, Row};
+use crate::text::{Style, Text};
+use mmdh::{Answer, Badge, Books, Refused, Row};
 
-/// Columns of price, quantity and orders; narrow panels leave the later ones out.
-const COLUMNS: [usize; 3] = [9, 6, 4];
+/// Columns of price, quantity and orders; a narrow panel leaves the later ones out.
+pub type Columns = &'static [usize];
 
-/// How wide and high to paint, and with which signs.
-pub struct Look {
-    width: usize,
-    rows: usize,
-    columns: usize,
-    across: usize,
-    shown: usize,
-    plain: bool,
+/// From the widest; only the first has room for quantities written out.
+pub const COLUMNS: [Columns; 4] = [&[11, 13, 7], &[9, 6, 4], &[9, 6], &[9]];
+
+/// The mark before a row: its side, and whether it is old.
+const MARK: usize = 2;
+
+pub fn width(columns: Columns) -> usize {
+    MARK + columns.iter().sum::<usize>() + 3
 }
 
-impl Look {
-    /// Side by side as far as the width goes; fewer columns, then rows, then panels where there is no room.
-    pub fn new(options: &Options, size: Size) -> Look {
-        let fitting = (1..=COLUMNS.len()).rev().find(|&columns| panel_width(columns) <= size.columns);
-        let columns = fitting.unwrap_or(1);
-        let bands = parts(options.count(), (size.columns / panel_width(columns)).max(1));
-        let across = parts(options.count(), bands);
-        let room = size.lines.saturating_sub(2);
-        let rows = (1..=options.rows).rev().find(|&rows| bands * panel_height(rows) <= room).unwrap_or(1);
-        let shown = (room / panel_height(rows)).max(1).saturating_mul(across);
-        let plain = options.plain || fitting.is_none();
-        Look { width: size.columns, rows, columns, across, shown, plain }
-    }
-
-    fn inside(&self) -> usize {
-        panel_width(self.columns) - 2
-    }
-
-    /// A line of text that does not run over.
-    pub fn cut(&self, text: &str) -> String {
-        text.chars().take(self.width).collect()
-    }
-
-    fn rule(&self, left: char, right: char) -> String {
-        let (left, dash, right) = if self.plain { ('+', "-", '+') } else { (left, "─", right) };
-        let dashes = dash.repeat(self.inside());
-        format!("{}{}{}", left, dashes, right)
-    }
-
-    fn framed(&self, text: &str) -> String {
-        let bar = if self.plain { '|' } else { '│' };
-        format!("{}{}{}", bar, text, bar)
-    }
-
-    /// Code and badge, coloured on a terminal.
-    fn title(&self, code: Option<u64>, badge: Badge) -> String {
-        let name = code.map_or_else(|| "-".to_string(), |code| code.to_string());
-        let room = self.inside().saturating_sub(name.len() + 1);
-        let mut shown = format!(" {} ", badge);
-        if shown.len() > room {
-            shown = letter(badge).to_string();
-        }
-        let gap = " ".repeat(room.saturating_sub(shown.len()));
-        if self.plain {
-            return format!(" {}{}{}", name, gap, shown);
-        }
-        let colour = match badge {
-            Badge::Stale => "97;41",
-            Badge::Green => "30;42",
-            Badge::Filling => "30;43",
-        };
-        format!(" \x1b[1m{}\x1b[0m{}\x1b[{}m{}\x1b[0m", name, gap, colour, shown)
-    }
-
-    fn row(&self, row: Option<&Row>) -> String {
-        let cells = match row {
-            None => [String::new(), String::new(), String::new()],
-            Some(row) => [price(row.price), short(row.quantity), short(row.orders)],
-        };
-        let shown = cells.iter().zip(COLUMNS).take(self.columns);
-        let line: String = shown.map(|(cell, width)| fitted(cell, width)).collect();
-        line + " "
-    }
-}
-
-/// A cell in its column; signs for a number that would run over.
-fn fitted(cell: &str, width: usize) -> String {
-    if cell.len() < width || width == COLUMNS[0] && cell.len() == width {
-        format!("{:>width$}", cell, width = width)
-    } else {
-        format!(" {}", "#".repeat(width - 1))
-    }
-}
-
-/// How many parts of this size it takes.
-fn parts(count: usize, size: usize) -> usize {
-    (count + size - 1) / size
-}
-
-/// A badge where there is no room for its word.
-fn letter(badge: Badge) -> char {
-    match badge {
-        Badge::Stale => 'S',
-        Badge::Green => 'G',
-        Badge::Filling => 'F',
-    }
-}
-
-fn panel_height(rows: usize) -> usize {
+pub fn height(rows: usize) -> usize {
     2 * rows + 4
 }
 
-fn panel_width(columns: usize) -> usize {
-    COLUMNS[..columns].iter().sum::<usize>() + 3
+/// What a panel shows of its book.
+enum Content {
+    Rows { bids: Vec<Row>, offers: Vec<Row> },
+    Nothing(&'static str),
 }
 
-/// What a panel shows.
 pub struct Panel {
     code: Option<u64>,
     badge: Badge,
-    bids: Vec<Row>,
-    offers: Vec<Row>,
+    content: Content,
 }
 
 impl Panel {
     pub fn new(books: &Books<'_>, code: Option<u64>, badge: Badge) -> Panel {
-        let rows = |side| code.map_or_else(Vec::new, |code| books.rows(code, side).collect());
-        Panel { code, badge, bids: rows(mmdh::Side::Bid), offers: rows(mmdh::Side::Offer) }
+        let content = match code.map(|code| (books.bids(code), books.offers(code))) {
+            None => Content::Nothing("no book yet"),
+            Some((Ok(bids), Ok(offers))) if bids.is_empty() && offers.is_empty() => Content::Nothing("empty book"),
+            Some((Ok(bids), Ok(offers))) => Content::Rows { bids: bids.to_vec(), offers: offers.to_vec() },
+            Some((Err(refused), _) | (_, Err(refused))) => Content::Nothing(no_rows(refused)),
+        };
+        Panel { code, badge, content }
     }
 
-    fn lines(&self, look: &Look) -> Vec<String> {
-        let mut lines = vec![look.rule('┌', '┐'), look.framed(&look.title(self.code, self.badge))];
-        lines.extend((0..look.rows).rev().map(|at| look.framed(&look.row(self.offers.get(at)))));
-        lines.push(look.rule('├', '┤'));
-        lines.extend((0..look.rows).map(|at| look.framed(&look.row(self.bids.get(at)))));
-        lines.push(look.rule('└', '┘'));
+    /// The panel's lines, with so many rows a side.
+    pub fn lines(&self, columns: Columns, rows: usize) -> Vec<Text> {
+        let inside = width(columns) - 2;
+        let mut lines = vec![rule('┌', inside, '┐'), framed(self.title(inside))];
+        let middle = rule('├', inside, '┤');
+        match &self.content {
+            Content::Rows { bids, offers } => {
+                lines.extend((0..rows).rev().map(|at| framed(self.row(columns, offers.get(at), Style::Offer))));
+                lines.push(middle);
+                lines.extend((0..rows).map(|at| framed(self.row(columns, bids.get(at), Style::Bid))));
+            }
+            Content::Nothing(words) => {
+                lines.extend((0..rows).map(|_| framed(Text::of(" ".repeat(inside), Style::Plain))));
+                lines.push(middle);
+                lines.extend((0..rows).map(|at| framed(words_at(at, words, inside))));
+            }
+        }
+        lines.push(rule('└', inside, '┘'));
         lines
+    }
+
+    /// Code and badge; a letter where there is no room for the badge's word.
+    fn title(&self, inside: usize) -> Text {
+        let name = self.code.map_or_else(|| "-".to_string(), |code| code.to_string());
+        let room = inside.saturating_sub(name.len() + 1);
+        let shown = label(self.badge, room);
+        let gap = " ".repeat(room.saturating_sub(shown.len()));
+        let text = Text::of(" ", Style::Plain).with(name, Style::Strong).with(gap, Style::Plain);
+        text.with(shown, Style::Corner(self.badge))
+    }
+
+    fn row(&self, columns: Columns, row: Option<&Row>, style: Style) -> Text {
+        let old = self.badge == Badge::Stale;
+        let mark = if style == Style::Bid { "B" } else { "O" };
+        match row {
+            None => Text::of(" ".repeat(width(columns) - 2), Style::Plain),
+            Some(row) => {
+                let mark = format!("{}{}", mark, if old { "~" } else { " " });
+                Text::of(mark + &cells(columns, row) + " ", if old { Style::Old } else { style })
+            }
+        }
     }
 }
 
-/// As many panels beside each other as the width allows, the others in bands below.
-pub fn side_by_side(panels: &[Panel], look: &Look) -> Vec<String> {
-    let mut lines = Vec::new();
-    for band in panels[..panels.len().min(look.shown)].chunks(look.across) {
-        let columns: Vec<Vec<String>> = band.iter().map(|panel| panel.lines(look)).collect();
-        for at in 0..columns[0].len() {
-            let line: String = columns.iter().map(|column| column[at].as_str()).collect();
-            lines.push(if look.plain { look.cut(&line) } else { line });
-        }
+/// A badge as a word, or as a letter where there is not room for so many signs.
+pub fn label(badge: Badge, room: usize) -> String {
+    let word = format!(" {} ", badge);
+    if word.len() <= room {
+        return word;
     }
-    lines
+    match badge {
+        Badge::Stale => "S",
+        Badge::Green => "G",
+        Badge::Filling => "F",
+    }
+    .to_string()
+}
+
+fn no_rows(refused: Refused) -> &'static str {
+    match refused.answer() {
+        Answer::NoRow => "no book",
+        Answer::Unsound => "not sound",
+        _ => "no such code",
+    }
+}
+
+fn words_at(at: usize, words: &str, inside: usize) -> Text {
+    let shown = if at == 0 { format!(" {}", words) } else { String::new() };
+    let shown: String = shown.chars().take(inside).collect();
+    Text::of(format!("{:<inside$}", shown, inside = inside), Style::Plain)
+}
+
+fn rule(left: char, inside: usize, right: char) -> Text {
+    Text::of(format!("{}{}{}", left, "─".repeat(inside), right), Style::Border)
+}
+
+fn framed(text: Text) -> Text {
+    Text::of("│", Style::Border).then(text).with("│", Style::Border)
+}
+
+fn cells(columns: Columns, row: &Row) -> String {
+    let wide = columns == COLUMNS[0];
+    let number = |number: u64| if wide { grouped(number) } else { short(number) };
+    let cells = [price(row.price), number(row.quantity), number(row.orders)];
+    cells.iter().zip(columns).map(|(cell, &width)| fitted(cell, width)).collect()
+}
+
+/// A cell in its column with a space before it; signs for a number that would run over.
+fn fitted(cell: &str, width: usize) -> String {
+    if cell.len() < width {
+        format!("{:>width$}", cell, width = width)
+    } else {
+        format!(" {}", "#".repeat(width - 1))
+    }
 }
 
 /// Thousandths as dollars.
@@ -155,6 +144,16 @@ fn price(thousandths: i64) -> String {
     let sign = if thousandths < 0 { "-" } else { "" };
     let size = thousandths.unsigned_abs();
     format!("{}{}.{:03}", sign, size / 1_000, size % 1_000)
+}
+
+/// A number with its thousands set apart.
+fn grouped(number: u64) -> String {
+    let digits = number.to_string();
+    let apart = digits.char_indices().map(|(at, digit)| match (digits.len() - at) % 3 {
+        0 if at > 0 => format!(",{}", digit),
+        _ => digit.to_string(),
+    });
+    apart.collect()
 }
 
 /// A number in at most five signs where it can be.

@@ -1,10 +1,9 @@
-//! The library against the twin, call by call; the vectors and document 01's examples; the safe cover.
+//! The library against the twin, call by call; the vectors and document 01's examples.
 //! The last line is 'N passed, M failed'.
 
 #![forbid(unsafe_code)]
 
 mod badges;
-mod cover;
 mod examples;
 mod grids;
 mod history;
@@ -12,6 +11,7 @@ mod pair;
 mod program;
 mod runs;
 mod scene;
+mod sides;
 mod singles;
 mod tally;
 
@@ -55,10 +55,10 @@ fn main() {
     let inputs = program::check_vectors(&mut pair.tally, Path::new(&options.vectors));
     program::check_damaged(&mut pair.tally, &mut dice, &inputs, options.rounds / 2_000);
     examples::check(&mut pair);
-    cover::check(&mut pair.tally);
     grids::check(&mut pair, &mut dice);
     badges::check(&mut pair, &mut dice, options.rounds / 4);
     singles::check(&mut pair, &mut dice, options.rounds);
+    sides::check(&mut pair.tally, &mut dice, options.rounds / 1_000);
     singles::check_large(&mut pair, &mut dice, options.rounds / 3_000);
     runs::check(&mut pair, &mut dice, options.rounds / 6_000, 500);
     runs::check_market(&mut pair, (options.rounds / 40) as u32);

@@ -3,7 +3,8 @@
 use crate::tally::Tally;
 use exchange::dice::Dice;
 use exchange::{message, session, unit};
-use mmdh::{Books, Connect, Feed};
+use mmdh::single::Feed;
+use mmdh::{Books, Connect, Rows};
 use std::fs;
 use std::path::Path;
 
@@ -25,13 +26,17 @@ pub fn run(input: &[u8]) -> String {
     let mut lines = String::from("code side rank price quantity orders\n");
     for code in books.codes() {
         for (name, rows) in [("B", books.bids(code)), ("O", books.offers(code))] {
-            for (at, row) in rows.enumerate() {
-                let line = format!("{} {} {} {} {} {}\n", code, name, at + 1, row.price, row.quantity, row.orders);
-                lines.push_str(&line);
-            }
+            lines.push_str(&printed(code, name, &rows.expect("a code with a slot has a sound book")));
         }
     }
     lines + &format!("end {} units {}\n", last.number(), units)
+}
+
+fn printed(code: u64, side: &str, rows: &Rows) -> String {
+    let line = |(at, row): (usize, &mmdh::Row)| {
+        format!("{} {} {} {} {} {}\n", code, side, at + 1, row.price, row.quantity, row.orders)
+    };
+    rows.iter().enumerate().map(line).collect()
 }
 
 /// Every vector of a folder, of the twin and of the library; the inputs are handed back.

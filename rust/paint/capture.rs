@@ -4,7 +4,7 @@ const HEADER: usize = 20;
 /// A step of the sender's clock beyond this is not believed.
 const LONGEST_STEP: u64 = 60_000;
 
-pub struct Line {
+pub struct Capture {
     bytes: Vec<u8>,
     at: usize,
     time: u64,
@@ -12,12 +12,12 @@ pub struct Line {
     ends: u64,
 }
 
-impl Line {
-    pub fn new(bytes: Vec<u8>) -> Line {
+impl Capture {
+    pub fn new(bytes: Vec<u8>) -> Capture {
         let begins = sent_at(&bytes).unwrap_or(0);
-        let mut line = Line { bytes, at: 0, time: begins, begins, ends: begins };
-        line.ends = line.last_sent();
-        line
+        let mut capture = Capture { bytes, at: 0, time: begins, begins, ends: begins };
+        capture.ends = capture.last_sent();
+        capture
     }
 
     /// When the first unit was sent.
@@ -30,24 +30,17 @@ impl Line {
         self.ends
     }
 
-    /// All bytes that are left, and their time, if the first unit of them was sent by then.
+    /// The next unit, or what there is of it, and its time, if it was sent by then.
     pub fn due(&mut self, time: u64) -> Option<(&[u8], u64)> {
         let rest = &self.bytes[self.at..];
         let sent = step(self.time, sent_at(rest)?);
         if sent > time {
             return None;
         }
+        let unit = unit_length(rest).min(rest.len());
         self.time = sent;
-        Some((rest, sent))
-    }
-
-    pub fn used(&mut self, bytes: usize) {
-        self.at += bytes;
-    }
-
-    /// Nothing more comes.
-    pub fn stop(&mut self) {
-        self.at = self.bytes.len();
+        self.at += unit;
+        Some((&rest[..unit], sent))
     }
 
     fn last_sent(&self) -> u64 {
@@ -81,7 +74,7 @@ fn unit_length(unit: &[u8]) -> usize {
 
 /// Hong Kong's time of day.
 pub fn clock(time: u64) -> String {
-    let of_day = (time + 8 * 3_600_000) % 86_400_000;
+    let of_day = time.wrapping_add(8 * 3_600_000) % 86_400_000;
     let seconds = of_day / 1_000;
     format!("{:02}:{:02}:{:02}.{}", seconds / 3_600, seconds / 60 % 60, seconds % 60, of_day % 1_000 / 100)
 }

@@ -1,0 +1,244 @@
+//! A line: bytes in any pieces, what it saw, and the life of a connection.
+
+use exchange::dice::Dice;
+use exchange::{book_message, message, refresh_complete, session, unit, Entry};
+use mmdh::single::Feed;
+use mmdh::{Answer, Badge, Books, Connect, Line, Phase, Why};
+
+/// SendKey, a logon with this status, and what follows it from SeqNum 3 on.
+fn session_bytes(status: u8, messages: &[(u32, Vec<u8>)]) -> Vec<u8> {
+    let mut bytes = [unit(1, 0, &message(1105, 532)), unit(2, 0, &session(1102, status))].concat();
+    for (at, (internal, message)) in messages.iter().enumerate() {
+        bytes.extend(unit(at as u32 + 3, *internal, message));
+    }
+    bytes
+}
+
+fn connected(time: u64) -> Line {
+    let mut line = Line::new(1_000, 4).expect("listed");
+    line.connect(Connect::Fresh, time).expect("accepted");
+    line
+}
+
+fn bid(code: u32, level: u8, price: i32) -> Vec<u8> {
+    book_message(code, &[Entry { quantity: 400, price, orders: 1, level, ..Entry::default() }])
+}
+
+fn live(time: u64) -> Line {
+    let mut line = connected(time);
+    line.hear(&session_bytes(0, &[(1, bid(5, 1, 100))]), time).expect("accepted");
+    line
+}
+
+#[test]
+fn any_pieces_are_one_stream() {
+    let morning = std::fs::read("../../captures/morning.bin").expect("the capture");
+    let mut feed = Feed::new(1_000).expect("listed");
+    let mut books = Books::with_slots(128);
+    assert!(feed.connect(Connect::Fresh, 7).is_accepted());
+    let (mut at, mut units) = (0, 0);
+    while at < morning.len() {
+        let arrival = feed.arrive(&mut books, &morning[at..], 7);
+        assert!(arrival.answer.is_accepted());
+        at += arrival.used;
+        units += 1;
+    }
+    let mut dice = Dice::new(13);
+    for largest in [1, 7, 40, 5_000, 1_000_000] {
+        let mut line = Line::new(1_000, 128).expect("listed");
+        line.connect(Connect::Fresh, 7).expect("accepted");
+        let (mut rest, mut heard) = (&morning[..], 0);
+        while !rest.is_empty() {
+            let (piece, after) = rest.split_at(dice.place(largest + 1).min(rest.len()));
+            heard += line.hear(piece, 7).expect("accepted").units;
+            rest = after;
+        }
+        assert_eq!((line.feed(), line.books().words()), (&feed, books.words()));
+        assert_eq!((heard, line.units(), line.waiting()), (units, units, 0));
+    }
+}
+
+/// The first refusal of a stream in pieces of at most this many bytes, and the line after all of them.
+fn followed(stream: &[u8], largest: usize, dice: &mut Dice) -> (Option<Answer>, Line) {
+    let mut line = Line::new(1_000, 32).expect("listed");
+    line.connect(Connect::Fresh, 7).expect("accepted");
+    let (mut rest, mut first) = (stream, None);
+    while !rest.is_empty() {
+        let (piece, after) = rest.split_at((1 + dice.place(largest)).min(rest.len()));
+        let refused = line.hear(piece, 7).err().map(|refused| refused.answer());
+        first = first.or(refused);
+        rest = after;
+    }
+    (first, line)
+}
+
+#[test]
+fn damaged_streams_end_alike_in_any_pieces() {
+    let morning = std::fs::read("../../captures/morning.bin").expect("the capture");
+    let mut dice = Dice::new(77);
+    let mut met = std::collections::BTreeSet::new();
+    for _ in 0..300 {
+        let mut stream = morning[..60_000].to_vec();
+        let at = dice.place(stream.len());
+        match dice.below(3) {
+            0 => stream[at] = dice.any() as u8,
+            1 => {
+                stream.remove(at);
+            }
+            _ => stream.insert(at, dice.any() as u8),
+        }
+        let (whole_first, whole) = followed(&stream, usize::MAX, &mut dice);
+        let (first, line) = followed(&stream, 3_000, &mut dice);
+        assert_eq!((first, line.feed(), line.units()), (whole_first, whole.feed(), whole.units()));
+        assert_eq!((line.reason(8), line.books().words()), (whole.reason(8), whole.books().words()));
+        met.insert(first.map(Answer::number));
+    }
+    assert!(met.len() >= 5, "refusals met: {:?}", met);
+}
+
+#[test]
+fn each_unit_is_shown() {
+    let bytes = session_bytes(0, &[(1, bid(5, 1, 100)), (1, bid(5, 1, 100)), (2, message(40, 12))]);
+    let (mut line, mut shown) = (connected(0), Vec::new());
+    for piece in bytes.chunks(11) {
+        let each = |unit: &mmdh::Unit<'_>| shown.push((unit.number, unit.answer, unit.bytes.len(), unit.feed.phase()));
+        line.hear_each(piece, 0, each).expect("accepted");
+    }
+    let wanted = [
+        (1, Answer::Taken, 552, Phase::WaitLogon),
+        (2, Answer::Taken, 28, Phase::Live),
+        (3, Answer::Taken, 56, Phase::Live),
+        (4, Answer::Seen, 56, Phase::Live),
+        (5, Answer::Passed, 32, Phase::Live),
+    ];
+    assert_eq!(shown, wanted);
+}
+
+#[test]
+fn a_gap_loses_the_line_and_says_which() {
+    let mut line = live(5_000);
+    assert_eq!((line.badge(5_000), line.why(5_000)), (Badge::Green, Why::Live));
+    let refused = line.hear(&[unit(6, 2, &bid(5, 2, 90)), unit(4, 2, &bid(5, 2, 90))].concat(), 5_100).unwrap_err();
+    assert_eq!(refused.answer(), Answer::NotNext);
+    let reason = line.reason(5_200);
+    let loss = reason.loss.expect("what lost the line");
+    assert_eq!((loss.answer, loss.expected, loss.met, loss.unit, loss.time), (Answer::NotNext, 4, 6, 4, 5_100));
+    assert_eq!((reason.why, reason.badge(), line.badge(5_200)), (Why::Lost, Badge::Stale, Badge::Stale));
+    let words = "lost: the sequence number is not the next (answer 13), unit 4, type 53, SeqNum 4 expected and 6 met";
+    assert_eq!(reason.to_string(), words);
+    assert_eq!((line.is_open(), line.waiting()), (false, 0));
+}
+
+#[test]
+fn a_lost_line_never_says_wait() {
+    let mut line = live(5_000);
+    assert!(line.hear(&unit(9, 9, &bid(5, 2, 90)), 5_000).is_err());
+    for bytes in [&[][..], &[0][..], &unit(4, 2, &bid(5, 2, 90))] {
+        let refused = line.hear(bytes, 5_001).unwrap_err();
+        assert_eq!((refused.answer(), line.waiting()), (Answer::NotOpen, 0));
+    }
+    let loss = line.reason(5_001).loss.expect("still the first refusal");
+    assert_eq!((loss.answer, loss.met), (Answer::NotNext, 9));
+}
+
+#[test]
+fn a_misfit_says_so_and_cannot_resume() {
+    let mut line = live(5_000);
+    assert!(line.hear(&unit(4, 2, &bid(5, 5, 90)), 5_000).is_err());
+    let words = "lost: an entry does not fit the book (answer 16), unit 4, type 53, SeqNum 4";
+    assert_eq!(line.reason(5_000).to_string(), words);
+    assert_eq!(line.connect(Connect::Resuming, 5_001).unwrap_err().answer(), Answer::CannotResume);
+    assert_eq!(line.reason(5_001).refused.map(|refused| refused.answer()), Some(Answer::CannotResume));
+    let words = format!("{}; a connect was refused: there is nothing whole to resume from (answer 20)", words);
+    assert_eq!(line.reason(5_001).to_string(), words);
+    assert_eq!(line.reconnect(5_002), Ok(Connect::Fresh));
+    assert_eq!((line.logon_number(), line.reason(5_002).to_string()), (0, "waiting for the key".to_string()));
+}
+
+#[test]
+fn a_gap_can_be_resumed_from_the_last_internal_number() {
+    let mut line = live(5_000);
+    assert!(line.hear(&unit(9, 9, &bid(5, 2, 90)), 5_000).is_err());
+    assert_eq!(line.reconnect(5_010), Ok(Connect::Resuming));
+    assert_eq!((line.logon_number(), line.units(), line.why(5_010)), (1, 0, Why::Key));
+    line.hear(&session_bytes(0, &[(1, bid(5, 1, 100)), (2, bid(5, 2, 90))]), 5_020).expect("accepted");
+    let prices: Vec<i64> = line.books().bids(5).expect("a book").iter().map(|row| row.price).collect();
+    assert_eq!((line.badge(5_020), prices), (Badge::Green, vec![100, 90]));
+}
+
+#[test]
+fn a_connect_drops_the_bytes_that_waited() {
+    let mut line = live(5_000);
+    assert_eq!(line.hear(&unit(4, 2, &bid(5, 2, 90))[..30], 5_000).expect("waits").waiting, 30);
+    line.connect(Connect::Fresh, 5_000).expect("accepted");
+    assert_eq!(line.waiting(), 0);
+    let heard = line.hear(&session_bytes(101, &[(0, bid(5, 1, 100)), (0, refresh_complete(77))]), 5_001);
+    assert_eq!(heard.expect("accepted").units, 4);
+    assert_eq!((line.badge(5_001), line.feed().internal()), (Badge::Green, 77));
+}
+
+#[test]
+fn a_refused_connect_leaves_all() {
+    let mut line = live(5_000);
+    assert_eq!(line.hear(&unit(4, 2, &bid(5, 2, 90))[..30], 5_000).expect("waits").waiting, 30);
+    assert_eq!(line.connect(Connect::Fresh, 4_999).unwrap_err().answer(), Answer::Early);
+    assert_eq!((line.waiting(), line.badge(5_000)), (30, Badge::Green));
+    assert_eq!(line.hear(&unit(4, 2, &bid(5, 2, 90))[30..], 5_000).expect("accepted").units, 1);
+}
+
+#[test]
+fn bytes_wait_for_the_clock() {
+    let mut line = live(5_000);
+    let next = unit(4, 2, &bid(5, 2, 90));
+    assert_eq!(line.hear(&next[..40], 4_999).unwrap_err().answer(), Answer::Early);
+    assert_eq!(line.hear(&next[40..], 4_998).unwrap_err().answer(), Answer::Early);
+    assert_eq!((line.waiting(), line.badge(5_000)), (next.len(), Badge::Green));
+    assert_eq!(line.reason(4_998).to_string(), "the clock is before the last heard time by 2 ms");
+    assert_eq!(line.hear(&[], 5_001).expect("accepted").units, 1);
+}
+
+#[test]
+fn silence_is_counted_from_the_last_unit() {
+    let mut line = live(5_000);
+    assert_eq!((line.badge(6_000), line.reason(6_000).lasts()), (Badge::Green, Some(0)));
+    assert_eq!((line.badge(6_001), line.reason(6_001).lasts()), (Badge::Stale, None));
+    line.hear(&[20, 0, 0, 0].repeat(5), 7_000).expect("a heartbeat");
+    assert_eq!((line.badge(7_400), line.reason(7_400).lasts()), (Badge::Green, Some(600)));
+}
+
+#[test]
+fn a_line_that_hung_up_keeps_its_badge() {
+    let mut line = live(5_000);
+    line.hung_up(5_400);
+    assert_eq!((line.badge(5_500), line.reason(5_500).hung_up), (Badge::Green, Some(5_400)));
+    assert_eq!(line.reason(5_500).to_string(), "live; the line hung up 100 ms ago");
+    line.reconnect(5_600).expect("accepted");
+    assert_eq!(line.reason(5_600).hung_up, None);
+}
+
+#[test]
+fn what_closed_a_line_is_told() {
+    let mut line = live(5_000);
+    assert_eq!(line.hear(&unit(4, 0, &session(1103, 103)), 5_000).expect("accepted").units, 1);
+    assert!(!line.is_open());
+    assert_eq!(line.reason(5_000).to_string(), "closed: logged out (type 1103, status 103), unit 4");
+    let mut line = connected(0);
+    line.hear(&session_bytes(5, &[]), 0).expect("accepted");
+    assert_eq!(line.reason(0).to_string(), "closed: the logon was turned down (type 1102, status 5), unit 2");
+}
+
+#[test]
+fn a_message_too_short_for_a_type_has_none() {
+    let mut line = live(5_000);
+    assert!(line.hear(&[&unit(4, 2, &[3, 0, 53])[..], &[0; 9]].concat(), 5_000).is_err());
+    let loss = line.reason(5_000).loss.expect("what lost the line");
+    assert_eq!((loss.answer, loss.kind, loss.met), (Answer::WrongSize, None, 4));
+}
+
+#[test]
+fn a_line_can_be_looked_at() {
+    let shown = format!("{:?}", live(5_000));
+    for part in ["Line", "Feed", "codes: [5]", "units: 3"] {
+        assert!(shown.contains(part), "{} is not in {}", part, shown);
+    }
+}

@@ -1,0 +1,193 @@
+//! Frames at every size, and what must stand in them.
+
+use crate::capture::Capture;
+use crate::desk::Desk;
+use crate::layout::Size;
+use crate::options::Options;
+use crate::svg::picture;
+use crate::text::{Style, Text};
+use mmdh::Badge;
+
+/// The morning, as far as it had come so many milliseconds after its first unit.
+fn morning(at: u64) -> (Desk, u64) {
+    let bytes = std::fs::read("../../captures/morning.bin").expect("the capture");
+    let mut desk = Desk::new(3_000, Capture::new(bytes)).expect("listed");
+    let time = desk.begins() + at;
+    desk.hear(time);
+    (desk, time)
+}
+
+/// A morning in which a byte of SeqNum was changed: it is lost on the way.
+fn lost() -> (Desk, u64) {
+    let mut bytes = std::fs::read("../../captures/morning.bin").expect("the capture");
+    let middle = bytes.len() / 2;
+    let next = (middle..).find(|&at| bytes[at..at + 2] == [0x38, 0] && bytes[at + 20..at + 24] == [0x24, 0, 53, 0]);
+    bytes[next.expect("a book message of one entry") + 7] = 1;
+    let mut desk = Desk::new(3_000, Capture::new(bytes)).expect("listed");
+    let time = desk.ends();
+    desk.hear(time);
+    (desk, time)
+}
+
+fn asked(words: &str) -> Options {
+    Options::read(words.split_whitespace().map(str::to_string)).expect("known options")
+}
+
+fn refused(words: &str) -> String {
+    Options::read(words.split_whitespace().map(str::to_string)).err().expect("a refusal")
+}
+
+fn plain(lines: &[Text]) -> Vec<String> {
+    lines.iter().map(Text::plain).collect()
+}
+
+fn frame(desk: &Desk, words: &str, columns: usize, lines: usize, time: u64) -> Vec<String> {
+    plain(&desk.frame(&asked(words), Size { columns, lines }, time))
+}
+
+/// The badge that a frame begins with.
+fn first_corner(lines: &[Text]) -> Option<Badge> {
+    match lines.first()?.spans.first()?.style {
+        Style::Corner(badge) if !lines[0].spans[0].text.trim().is_empty() => Some(badge),
+        _ => None,
+    }
+}
+
+#[test]
+fn the_badge_is_on_the_screen_at_every_size() {
+    let cases = [(morning(500), Badge::Filling), (morning(12_000), Badge::Green), (morning(60_000), Badge::Stale)];
+    for ((desk, time), badge) in cases.into_iter().chain([(lost(), Badge::Stale)]) {
+        for columns in (1..=30).chain([39, 80, 132, 400]) {
+            for lines in (1..=12).chain([24, 60]) {
+                let painted = desk.frame(&asked(""), Size { columns, lines }, time);
+                assert!(painted.len() <= lines, "{} by {}: {} lines", columns, lines, painted.len());
+                assert!(painted.iter().all(|line| line.width() <= columns), "{} by {}: too wide", columns, lines);
+                assert_eq!(first_corner(&painted), Some(badge), "{} by {}", columns, lines);
+            }
+        }
+    }
+}
+
+#[test]
+fn the_reason_stands_first_and_is_never_cut() {
+    let (desk, time) = lost();
+    let reason = "lost: the sequence number is not the next (answer 13),";
+    for columns in [20, 24, 40, 80, 200] {
+        let painted = frame(&desk, "", columns, 24, time).join(" ");
+        let words: Vec<&str> = painted.split_whitespace().collect();
+        let wanted: Vec<&str> = reason.split_whitespace().collect();
+        assert_eq!((words[0], &words[1..=wanted.len()]), ("stale", &wanted[..]), "{} columns", columns);
+        assert!(painted.contains("expected"), "{}", painted);
+    }
+    assert_eq!(frame(&desk, "", 12, 2, time)[0], " stale  lost");
+}
+
+#[test]
+fn panels_that_do_not_fit_are_announced() {
+    let (desk, time) = morning(12_000);
+    for (columns, lines) in [(30, 12), (80, 10), (24, 24), (9, 40), (200, 3)] {
+        let painted = frame(&desk, "", columns, lines, time);
+        let tops = painted.iter().map(|line| line.matches("+-").count()).sum::<usize>() / 3;
+        let words = painted.join(" ").split_whitespace().collect::<Vec<_>>().join(" ");
+        let announced = format!("{} of 6 panels do not fit", 6 - tops);
+        assert!(tops < 6 && words.contains(&announced), "{} by {}: {}", columns, lines, words);
+    }
+    assert!(!frame(&desk, "", 80, 24, time).join(" ").contains("fit"));
+    assert!(frame(&desk, "--codes 700,5,16", 27, 13, time).join(" ").contains("2 of 3 panels do not fit 5 16"));
+}
+
+#[test]
+fn a_large_terminal_is_used() {
+    let (desk, time) = morning(12_000);
+    let rows = |columns, lines| {
+        let painted = frame(&desk, "", columns, lines, time);
+        painted.iter().map(|line| line.matches("|B ").count()).sum::<usize>()
+    };
+    assert!(rows(80, 24) < rows(100, 40) && rows(100, 40) < rows(200, 60) && rows(200, 60) < rows(400, 110));
+    assert!(frame(&desk, "", 240, 60, time).join(" ").contains("297,"), "quantities written out");
+}
+
+#[test]
+fn the_countdown_runs_to_stale() {
+    let (desk, time) = morning(60_000);
+    let heard = desk.ends() - 3_001;
+    for (after, words) in [(0, "stale in 3.0 s, limit 3.0 s"), (2_900, "stale in 0.1 s"), (3_000, "stale in 0.0 s")] {
+        assert!(frame(&desk, "", 80, 24, heard + after).join(" ").contains(words), "{} ms", after);
+    }
+    let painted = frame(&desk, "", 80, 24, time).join(" ");
+    assert!(painted.contains("limit 3.0 s") && !painted.contains("stale in"), "{}", painted);
+}
+
+#[test]
+fn stale_rows_look_stale_and_sides_differ() {
+    let styles = |(desk, time): (Desk, u64)| {
+        let painted = desk.frame(&asked(""), Size { columns: 80, lines: 24 }, time);
+        let spans: Vec<_> = painted.into_iter().flat_map(|line| line.spans).collect();
+        [Style::Bid, Style::Offer, Style::Old].map(|style| spans.iter().filter(|span| span.style == style).count())
+    };
+    assert_eq!(styles(morning(12_000)), [18, 18, 0]);
+    assert_eq!(styles(morning(60_000)), [0, 0, 36]);
+    let (desk, time) = morning(60_000);
+    assert!(frame(&desk, "", 80, 24, time).iter().any(|line| line.contains("|B~") || line.contains("|O~")));
+}
+
+#[test]
+fn no_book_is_told_from_an_empty_book() {
+    let (desk, time) = morning(500);
+    assert!(frame(&desk, "--codes 4711", 80, 24, time).join(" ").contains("no book "));
+    assert!(frame(&desk, "", 80, 24, time).join(" ").contains("no book yet"));
+    let empty = [
+        (1, 0, vec![4, 0, 0x51, 4]),
+        (2, 0, vec![8, 0, 0x4E, 4, 0, 0, 0, 0]),
+        (3, 1, [&[36, 0, 53, 0, 5, 0, 0, 0, 0, 0, 0, 1][..], &[0; 19], &[74], &[0; 4]].concat()),
+    ];
+    let units = empty.iter().map(|(seq, internal, message)| {
+        let head = [&[99, 0, 0, 0, *seq, 0, 0, 0, *internal][..], &[0; 11]].concat();
+        [head, message.clone()].concat()
+    });
+    let mut desk = Desk::new(3_000, Capture::new(units.collect::<Vec<_>>().concat())).expect("listed");
+    desk.hear(0);
+    let painted = frame(&desk, "--codes 5,6", 80, 24, 0).join(" ");
+    assert!(painted.contains("empty book") && painted.contains("no book "), "{}", painted);
+}
+
+#[test]
+fn it_is_over_after_lost() {
+    assert!(lost().0.is_over());
+    assert!(!morning(60_000).0.is_over());
+}
+
+#[test]
+fn plain_frames_have_no_escapes_and_the_others_are_the_same_words() {
+    let (desk, time) = morning(12_000);
+    for line in desk.frame(&asked(""), Size { columns: 132, lines: 60 }, time) {
+        assert!(line.plain().is_ascii() && !line.plain().contains('\x1b'));
+        let mut words = line.escaped();
+        while let Some(at) = words.find('\x1b') {
+            let end = words[at..].find('m').expect("the end of an escape");
+            words.replace_range(at..=at + end, "");
+        }
+        assert_eq!(words, line.spans.iter().map(|span| span.text.as_str()).collect::<String>());
+    }
+}
+
+#[test]
+fn a_picture_has_every_word_of_its_frame() {
+    let (desk, time) = morning(12_000);
+    let size = Size { columns: 80, lines: 24 };
+    let painted = desk.frame(&asked(""), size, time);
+    let drawn = picture(&painted, size).replace("&#160;", " ");
+    for span in painted.iter().flat_map(|line| &line.spans).filter(|span| span.style != Style::Border) {
+        assert!(drawn.contains(span.text.trim()), "{:?} is not in the picture", span);
+    }
+}
+
+#[test]
+fn what_is_not_known_is_refused_by_name() {
+    assert_eq!(refused("--colour"), "--colour is not known (see --help)");
+    assert_eq!(refused("-x 5"), "-x is not known (see --help)");
+    assert_eq!(refused("a.bin b.bin"), "b.bin is a file too many (see --help)");
+    assert_eq!(refused("--rows 11"), "--rows 11: wants a number from 1 to 10");
+    assert_eq!(refused("--svg"), "--svg wants a value (see --help)");
+    assert_eq!(asked("-").file.as_deref(), Some("-"));
+}

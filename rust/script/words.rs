@@ -1,0 +1,83 @@
+//! One line of a script: its operation, and the words behind it read one by one.
+
+/// Most words of a table that a script may ask for.
+const LARGEST: u64 = 1 << 24;
+
+/// The words of one line that have not been read yet.
+pub struct Words<'a> {
+    operation: &'a str,
+    rest: Vec<&'a str>,
+    at: usize,
+}
+
+impl<'a> Words<'a> {
+    /// A line's words; none of an empty line and of one that begins with `#`.
+    pub fn of(line: &'a str) -> Option<Words<'a>> {
+        let mut words = line.split_whitespace();
+        let operation = words.next().filter(|word| !word.starts_with('#'))?;
+        Some(Words { operation, rest: words.collect(), at: 0 })
+    }
+
+    pub fn operation(&self) -> &'a str {
+        self.operation
+    }
+
+    /// How many words follow that have not been read.
+    pub fn left(&self) -> usize {
+        self.rest.len() - self.at
+    }
+
+    fn next(&mut self, name: &str) -> Result<&'a str, String> {
+        let word =
+            self.rest.get(self.at).ok_or_else(|| format!("{} wants {} and has no more words", self.operation, name))?;
+        self.at += 1;
+        Ok(word)
+    }
+
+    /// A decimal number of 64 bits.
+    pub fn number(&mut self, name: &str) -> Result<u64, String> {
+        let word = self.next(name)?;
+        let digits = !word.is_empty() && word.bytes().all(|byte| byte.is_ascii_digit());
+        let number = if digits { word.parse().ok() } else { None };
+        number.ok_or_else(|| format!("{}: {} is no decimal number of 64 bits: {}", self.operation, name, word))
+    }
+
+    /// A decimal number of 32 bits.
+    pub fn short(&mut self, name: &str) -> Result<u32, String> {
+        let number = self.number(name)?;
+        number.try_into().map_err(|_| format!("{}: {} is above 4,294,967,295: {}", self.operation, name, number))
+    }
+
+    /// A table's length in words.
+    pub fn length(&mut self, name: &str) -> Result<usize, String> {
+        let number = self.number(name)?;
+        if number > LARGEST {
+            return Err(format!("{}: {} is above {} words: {}", self.operation, name, LARGEST, number));
+        }
+        Ok(number as usize)
+    }
+
+    /// Bytes as hex digits, `-` for none.
+    pub fn bytes(&mut self, name: &str) -> Result<Vec<u8>, String> {
+        let word = self.next(name)?;
+        if word == "-" {
+            return Ok(Vec::new());
+        }
+        let pairs = word.as_bytes().chunks(2).map(byte);
+        let bytes: Option<Vec<u8>> = pairs.collect();
+        bytes.ok_or_else(|| format!("{}: {} are not pairs of hex digits", self.operation, name))
+    }
+
+    /// Nothing may be left.
+    pub fn end(&self) -> Result<(), String> {
+        match self.rest.get(self.at) {
+            None => Ok(()),
+            Some(word) => Err(format!("{} has a word too many: {}", self.operation, word)),
+        }
+    }
+}
+
+fn byte(pair: &[u8]) -> Option<u8> {
+    let digit = |at: usize| pair.get(at).and_then(|&sign| (sign as char).to_digit(16));
+    Some((16 * digit(0)? + digit(1)?) as u8)
+}
