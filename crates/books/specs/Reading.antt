@@ -1,8 +1,8 @@
 -- Reading a row by code, side and rank (document 01, "Reading a row"). It writes nothing. Assumes nothing.
-use Prim.Native.Nat.{ℕ, _+_, _-_, _*_}
+use Prim.Native.Nat.{ℕ}
 use mathlib.Core.Bool.{Bool, true, false, cond, not, _&&_}
 use mathlib.Core.List.{List, [], _∷_}
-use lib.ListN.{length, drop}
+use lib.ListN.{length}
 use lib.IntN.{pos, subℕ}
 use lib.Dec.{ltb, eqb}
 use Rattle.ground.specs.Choice.{first}
@@ -12,7 +12,6 @@ use Rattle.slots.specs.declared.Slot.the-variants.{Held, Free, Full}
 use Rattle.ladder.specs.Message.{bidSide, listedSide, listedRank, listedCode}
 use Rattle.ladder.specs.Sides.{rowAt}
 use Rattle.ladder.specs.Walk.{Book}
-use Rattle.ladder.specs.Words.{bidCount, offerCount, bidsAt, offersAt, rowWidth, rowOf, sound}
 use Rattle.ladder.specs.declared.Row.{Row}
 use Rattle.books.specs.Table.{placeIn, unsoundAt, bookAt}
 use Rattle.books.specs.declared.RowRead.{RowRead}

@@ -1,16 +1,15 @@
 -- Runs of the C calls, proved: each is named as its statement in specs/Border, with a small letter. Assumes nothing.
 use Prim.Native.Nat.{ℕ}
 use mathlib.Core.Path.{_≡_, refl, sym, ap, _∙_}
-use mathlib.Core.Bool.{Bool, true, false, cond, not}
+use mathlib.Core.Bool.{Bool, true, false}
 use mathlib.Core.List.{List, [], _∷_}
 use lib.Dec.{eqb}
 use Rattle.feed.specs.Feeds.{badgeNo, badgeOf, plainBadge}
-use Rattle.feed.specs.Events.{State, Event, Connect, Arrive, Cut}
-use Rattle.feed.specs.Steps.{lent, stateOf, Outcome, outcome}
+use Rattle.feed.specs.Events.{State}
+use Rattle.feed.specs.Steps.{lent, stateOf, outcome}
 use Rattle.feed.specs.declared.Feed.{Feed}
 use Rattle.feed.proofs.Laws.{phase-back, plain-badge}
-use Rattle.promises.specs.Runs.{start, after, run, trace, noHistory, recall}
-use Rattle.promises.specs.Ledger.{Ledger, noLedger, keep}
+use Rattle.promises.specs.Runs.{start, after, run, trace}
 use Rattle.promises.proofs.Demands as D
 use Rattle.promises.proofs.NoHole as N
 use Rattle.screen.specs.Plain.{yes, bit, feedOf, plainFeed, plainOutcome}

@@ -1,7 +1,7 @@
 -- What each stage of an arrival and a connect ask: the rows of the table of answers, one after the other. Assumes nothing.
 use Prim.Native.Nat.{ℕ, _+_, _≤_, _<_, _^_}
 use mathlib.Core.Path.{_≡_, refl, ap, sym, subst, _∙_}
-use mathlib.Core.Bool.{Bool, true, false, cond, not}
+use mathlib.Core.Bool.{Bool, true, false, cond}
 use mathlib.Core.List.{List, [], _∷_}
 use native.Mathlib.Omega.{arith}
 use lib.Dec.{T, ltb, leb, eqb}
@@ -25,7 +25,7 @@ use Rattle.books.specs.Table.{books, unsound, noSlot, misfits, bookAnswer, book
 use Rattle.books.specs.Code.Turns.{bookTurn}
 use Rattle.feed.specs.Messages.{kindOf, onMarket, market, book, wrongSize, statusOf, listed}
 use Rattle.feed.specs.Feeds.{deaf, inPhase, nextIs, internalIs, heardAt, wholeIs, freshIs}
-use Rattle.feed.specs.Events.{Tables, Event, Connect, Arrive, Cut, timeOf, News, Linked, Message, cutFrom, news, onMessage, newsSize, offered}
+use Rattle.feed.specs.Events.{Tables, Connect, Arrive, Cut, timeOf, News, Linked, Message, cutFrom, news, onMessage, newsSize, offered}
 use Rattle.feed.specs.Answers.{number, arrives, lacksNeed, isMore, isNext, allowed, seen, ofBook, passed, lineTests, tableTests, tests}
 use Rattle.feed.specs.Code.Judging.{verdict, refusal}
 use Rattle.feed.specs.Steps.{enterLive, isFresh, loggedOn, clearsOn, clears, tablesAfter, does, advanced, counted, taken, act, accepted, usedOf, Outcome, lent, stateOf, outOf, handed, outcome}

@@ -1,5 +1,5 @@
 -- The program's run over one stream (document 01, example 10). Assumes nothing.
-use Prim.Native.Nat.{ℕ, zero, suc, _+_, _*_}
+use Prim.Native.Nat.{ℕ, zero, suc, _+_}
 use mathlib.Core.Bool.{cond}
 use mathlib.Core.List.{List, [], _∷_, _++_}
 use lib.ListN.{length, take, drop, replicate}
@@ -9,7 +9,7 @@ use Rattle.wire.specs.Number.{bias}
 use Rattle.slots.specs.Slots.{codeOf}
 use Rattle.slots.specs.Layout.{slotsIn}
 use Rattle.ladder.specs.Message.{bidSide, offerSide}
-use Rattle.ladder.specs.Words.{bookWidth, bookOf}
+use Rattle.ladder.specs.Words.{bookOf}
 use Rattle.books.specs.Table.{books}
 use Rattle.ladder.specs.declared.Row.{Row}
 use Rattle.feed.specs.Feeds.{newFeed}

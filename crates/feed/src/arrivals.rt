@@ -13,10 +13,10 @@ ghost use mathlib.Core.Bool.{false, cond};
 ghost use Prim.Native.Nat.{_≤_};
 ghost use Rattle.feed.specs.Messages.{kind as kindIn, wrongSize};
 ghost use Rattle.feed.specs.Feeds.{inPhase, wholeIs};
-ghost use Rattle.feed.specs.Events.{Arrive, Cut};
+ghost use Rattle.feed.specs.Events.{Cut};
 ghost use Rattle.feed.specs.Contracts.{ArriveSays, CutSays};
 ghost use Rattle.feed.specs.Answers.{lastSeqNum};
-ghost use Rattle.feed.specs.Steps.{advanced as advancedAt, counted, accepted, lent, stateOf, outOf, outcome};
+ghost use Rattle.feed.specs.Steps.{advanced as advancedAt, counted, accepted, lent, stateOf, outOf};
 ghost use Rattle.feed.specs.Code.Judging.{answered, onTables};
 
 // What arrives, and all that is written.

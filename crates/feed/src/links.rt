@@ -7,11 +7,11 @@ use super::Phase;
 use super::badges::badge_at;
 use super::badges::is_limit;
 ghost use mathlib.Core.Path.{_≡_};
-ghost use Rattle.feed.specs.Feeds.{newFeed, newGiven, badgeOf};
-ghost use Rattle.feed.specs.Events.{Tables, Connect, Linked};
+ghost use Rattle.feed.specs.Feeds.{newFeed};
+ghost use Rattle.feed.specs.Events.{Linked};
 ghost use Rattle.feed.specs.Contracts.{NewSays, ConnectSays, BadgeSays};
 ghost use Rattle.feed.specs.Answers.{lacksNeed};
-ghost use Rattle.feed.specs.Steps.{isFresh, outcome};
+ghost use Rattle.feed.specs.Steps.{isFresh};
 
 // Whether a connect is fresh.
 fn is_fresh(link: Link) -> bool

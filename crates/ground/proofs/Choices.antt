@@ -89,17 +89,6 @@ unfolding first
 first-append [] us other = refl
 first-append (t ∷ ts) us other = ap (cond (t .0) (t .1)) (first-append ts us other)
 
--- a test that passes after none before it gives its answer
-pub first-at : {A : Type 0} (ts us : List (Bool × A)) (a other : A) → T (all (λ t. not (t .0)) ts) → first (ts ++ ((true, a) ∷ us)) other ≡ a
-unfolding first all
-first-at [] us a other h = refl
-first-at {A} (t ∷ ts) us a other h = go (t .0) h (first-at ts us a other)
-  where
-    go : (b : Bool) → T (not b && all (λ t. not (t .0)) ts) → (T (all (λ t. not (t .0)) ts) → first (ts ++ ((true, a) ∷ us)) other ≡ a)
-        → cond b (t .1) (first (ts ++ ((true, a) ∷ us)) other) ≡ a
-    go true h rest = absurd h
-    go false h rest = rest h
-
 -- and where none passes, the other is picked
 pub first-none : {A : Type 0} (ts : List (Bool × A)) (other : A) → T (all (λ t. not (t .0)) ts) → first ts other ≡ other
 unfolding first all

@@ -120,10 +120,6 @@ entry-holds time e b p f =
     (λ d. map-holds (SoundRows Offer) SoundBook (withOffers b) (λ s q. record { bids = p .bids; offers = q }) (onSide Offer e (b .offers)) (side-sound Offer e (b .offers) (p .offers) f))
     (λ d. tt)))
 
--- an entry leaves a sound book sound
-pub entry-sound : (time : ℕ) (e : Entry) (b b′ : Book) → onBook time e b ≡ some b′ → SoundBook b → bounded (e .row) ≡ true → SoundBook b′
-entry-sound time e b b′ q p f = subst (Holds SoundBook) q (entry-holds time e b p f)
-
 -- of what comes after it
 bind-holds : {A : Type 0} (P : A → Type 0) (f : A → Option A) (o : Option A) → Holds P o → ((x : A) → P x → Holds P (f x)) → Holds P (bind o f)
 unfolding bind

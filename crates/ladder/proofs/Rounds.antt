@@ -1,6 +1,6 @@
 -- What is written is read back, and what is read from a sound book is written as it stood (specs/Words). Assumes nothing.
 use Prim.Native.Nat.{ℕ, _+_, _-_, _*_, _≤_, _<_}
-use mathlib.Core.Path.{_≡_, refl, ap, sym, subst, _∙_}
+use mathlib.Core.Path.{_≡_, refl, ap, sym, _∙_}
 use mathlib.Core.Bool.{true, _&&_}
 use mathlib.Core.List.{List, [], _∷_, _++_, map, append-nil}
 use native.Mathlib.Omega.{arith}
@@ -13,7 +13,7 @@ use Rattle.slots.proofs.Blocks.{Wide, wide-blocks}
 use Rattle.slots.proofs.Blocks as bl
 use Rattle.slots.proofs.Overlay.{blocks-flat}
 use Rattle.ground.specs.Choice.{all}
-use Rattle.ground.proofs.Bools.{both, join}
+use Rattle.ground.proofs.Bools.{join}
 use Rattle.ladder.specs.Sides.{noRow}
 use Rattle.ladder.specs.Walk.{Book}
 use Rattle.ladder.specs.Words.{rowWidth, sideWidth, bookWidth, bidCount, offerCount, spareWord, bidsAt, offersAt, rowOf, rowWords, rowsFrom, bookOf, pad, sideWords, wordsOf, zeroRow, soundSide, sound, SoundRows, SoundBook}
@@ -23,7 +23,7 @@ use Rattle.ladder.specs.declared.Way.the-variants.{Bid, Offer}
 use Rattle.ladder.specs.declared.Row.{Row}
 use Rattle.ladder.proofs.Pads.{length-pad, pad-behind, live-of, live-n}
 use Rattle.ladder.proofs.Writes.{side-words}
-use Rattle.ladder.proofs.Tells.{all-of, side-few, side-rows, spare-zero, sides-padded}
+use Rattle.ladder.proofs.Tells.{all-of, spare-zero, sides-padded}
 use Rattle.ladder.specs.Message.{depth}
 
 -- a row is read back from its words
@@ -135,10 +135,6 @@ rows-sound w s p =
         let t : i < depth - length s = rw (length-drop, length-pad) at h in
         ap zeroRow (getD-drop (length s) (pad s) i noRow ∙ pad-behind s (length s + i) (omega arith) (omega arith)) ∙ zero)
 
--- ten rows that are sound are sound by value
-sound-rows : (w : Way) (s : List Row) → soundSide w (length s) (pad s) ≡ true → SoundRows w s
-sound-rows w s e = subst (SoundRows w) (live-of s (side-few w (length s) (pad s) e)) (side-rows w (length s) (pad s) e (length-pad s))
-
 module _ (c : ℕ) (b : Book) where
   -- its soundness is that of its two sides
   sound-is : sound (wordsOf c b) ≡ (soundSide Bid (length (b .bids)) (pad (b .bids)) && soundSide Offer (length (b .offers)) (pad (b .offers)))
@@ -151,9 +147,3 @@ module _ (c : ℕ) (b : Book) where
   -- the words of a sound book are sound
   pub written-sound : SoundBook b → sound (wordsOf c b) ≡ true
   written-sound p = sound-is ∙ join _ _ (rows-sound Bid (b .bids) (p .bids)) (rows-sound Offer (b .offers) (p .offers))
-
-  -- a book whose words are sound is sound
-  pub sound-written : sound (wordsOf c b) ≡ true → SoundBook b
-  sound-written e =
-      let p = both (soundSide Bid (length (b .bids)) (pad (b .bids))) (soundSide Offer (length (b .offers)) (pad (b .offers))) (sym sound-is ∙ e) in
-      record { bids = sound-rows Bid (b .bids) (p .0); offers = sound-rows Offer (b .offers) (p .1) }

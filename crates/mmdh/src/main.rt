@@ -15,7 +15,7 @@ ghost use Rattle.feed.specs.Steps.{accepted};
 ghost use Rattle.feed.specs.Program.{bufferSize, connection, sideLines, lines, tableWords};
 ghost use Rattle.mmdh.specs.Code.Runs.{Within, Called, Refilled, Turned, Drained, Wrote};
 ghost use Rattle.mmdh.specs.Text.{decimal, signed, space, letter, lineText, linesText, endText, text};
-ghost use Rattle.mmdh.specs.Code.Rooms.{lineOf, shown, Put, sideRoom, bookRoom, booksRoom, textRoom, lineRoom, endRoom, priceRoom, numberRoom, slots};
+ghost use Rattle.mmdh.specs.Code.Rooms.{lineOf, shown, Put, sideRoom, bookRoom, booksRoom, textRoom, lineRoom, endRoom, priceRoom, numberRoom};
 use feed::Feed;
 use feed::Link;
 use ladder::DEPTH;

@@ -2,9 +2,7 @@
 -- To weaken a contract, or to leave it out, breaks one of these. Assumes nothing.
 use mathlib.Core.Path.{_≡_, sym, ap, _∙_}
 use denote.Ref.{now}
-use Rattle.feed.specs.Events.{Tables}
 use Rattle.feed.specs.Steps.{Outcome}
-use Rattle.feed.specs.declared.Given.{Given}
 use Rattle.feed.proofs.Feed.new.Reads as new
 use Rattle.feed.proofs.Feed.connect.Reads as connect
 use Rattle.feed.proofs.Feed.arrive.Reads as arrive

@@ -1,18 +1,18 @@
 -- DECISIONS 38 and 104, proved: each is named as its statement in specs/Decisions, with a small letter. Assumes nothing.
 use Prim.Native.Nat.{ℕ}
-use mathlib.Core.Path.{_≡_, refl, sym, ap, _∙_, subst}
-use mathlib.Core.Bool.{Bool, true, false, cond, not, _&&_, true≢false}
+use mathlib.Core.Path.{_≡_, refl, sym, _∙_, subst}
+use mathlib.Core.Bool.{Bool, true, false, _&&_, true≢false}
 use mathlib.Core.List.{List, [], _∷_, _++_}
 use lib.Dec.{T}
 use Rattle.ground.proofs.Bools.{split}
 use Rattle.books.specs.Table.{noSlot, misfits}
 use Rattle.feed.specs.Messages.{kind, onMarket, market, book, statusOf, logonStatus}
 use Rattle.feed.specs.Feeds.{is, internalIs}
-use Rattle.feed.specs.Events.{Tables, State, Event, News, Linked, More, Heartbeat, Message, news, timeOf}
-use Rattle.feed.specs.Answers.{allowed, ofBook, reply}
+use Rattle.feed.specs.Events.{Tables, State, News, Linked, More, Heartbeat, Message, news, timeOf}
+use Rattle.feed.specs.Answers.{ofBook, reply}
 use Rattle.feed.specs.declared.Answer.{Answer}
 use Rattle.feed.specs.declared.Answer.the-variants.{Keep, Lose, Spoil, Skip, Take}
-use Rattle.feed.specs.Steps.{cleared, enterLive, loggedOn, does, counted, taken, act, handed, outcome}
+use Rattle.feed.specs.Steps.{loggedOn, does, counted, taken, act, handed, outcome}
 use Rattle.feed.specs.declared.Phase.{Phase}
 use Rattle.feed.specs.declared.Phase.the-variants.{Idle, WaitKey, WaitLogon, Refreshing, Live, Lost, Closed}
 use Rattle.feed.specs.declared.Kind.{Kind}
@@ -22,7 +22,7 @@ use Rattle.feed.specs.declared.Datum.the-variants.{Book, Other}
 use Rattle.feed.specs.declared.Status.{Status}
 use Rattle.feed.specs.declared.Status.the-variants.{Opens, Refills, Stays, Closes, Unlisted}
 use Rattle.feed.specs.declared.Feed.{Feed}
-use Rattle.promises.specs.Runs.{zeroed, start, run, Deed, Took, History, noHistory, noteStatus, noteTaken, history, perform, replay}
+use Rattle.promises.specs.Runs.{zeroed, start, run, Deed, Took, History, noHistory, noteStatus, noteTaken, perform, replay}
 use Rattle.promises.specs.Decisions as D
 use Rattle.promises.specs.Decisions.{fitsDeed, fitting}
 use Rattle.promises.proofs.Steps.{Any, any, Keeps, on-run}

@@ -1,19 +1,13 @@
 -- The customer's demands, proved: each is named as its statement in specs/Demands, with a small letter. Assumes nothing.
 use Prim.Native.Nat.{ℕ, zero}
-use mathlib.Core.Path.{_≡_, refl, sym, ap, _∙_, subst}
+use mathlib.Core.Path.{_≡_, refl, sym, ap, subst}
 use mathlib.Core.Bool.{Bool, true, false, cond, not, true≢false}
 use mathlib.Core.Logic.{_⊎_, inl, inr, ⊎-elim}
-use mathlib.Core.List.{List, [], _∷_, _++_}
-use native.Mathlib.Omega.{arith}
-use lib.ListN.{length, take, drop}
+use mathlib.Core.List.{List, [], _∷_}
 use lib.Dec.{T, leb, eqb}
 use borrow.Author.Tests.{not-false, eqb-true, leb-true}
 use Rattle.ground.specs.Choice.{oneOf, first, all}
 use Rattle.ground.proofs.Bools.{both, split}
-use Rattle.wire.specs.Units.{unitOf}
-use Rattle.wire.specs.declared.Unit.{Unit}
-use Rattle.wire.specs.declared.Unit.the-variants as unit
-use Rattle.wire.proofs.Fronts.{unit-fits, unit-stays}
 use Rattle.ground.proofs.Choices.{first-may, first-skips}
 use Rattle.books.specs.Table.{bookIn, unsound, noSlot, misfits, booksAfter}
 use Rattle.books.proofs.Frames.{books-own, books-slots, books-other, books-length, books-tail, book-sound-in}
@@ -24,9 +18,9 @@ use Rattle.books.specs.Reading.{readAnswer, readRow}
 use Rattle.books.specs.declared.RowRead.{RowRead}
 use Rattle.feed.specs.Messages.{kind, onMarket, book}
 use Rattle.feed.specs.Feeds.{listedLimit, newFeed, newGiven}
-use Rattle.feed.specs.Events.{State, Event, News, Message, timeOf, cutFrom, news, offered, onMessage}
+use Rattle.feed.specs.Events.{State, Event, News, Message, timeOf, onMessage}
 use Rattle.feed.specs.Answers.{number, isNext, lineTests, tableTests, tests, answerTo, reply, ofBook}
-use Rattle.feed.specs.Steps.{tablesAfter, does, taken, act, accepted, usedOf, handed, outcome}
+use Rattle.feed.specs.Steps.{tablesAfter, does, taken, act, accepted, handed, outcome}
 use Rattle.feed.specs.declared.Answer.{Answer}
 use Rattle.feed.specs.declared.Answer.the-variants.{Keep, Lose, Spoil, Skip, Take}
 use Rattle.feed.proofs.Laws.{numbered}

@@ -1,26 +1,26 @@
 -- The good morning, proved. Assumes nothing.
-use Prim.Native.Nat.{ℕ, zero, suc, _+_, _≤_}
+use Prim.Native.Nat.{ℕ, _+_, _≤_}
 use native.Mathlib.Omega.{arith}
 use mathlib.Core.Path.{_≡_, refl, sym, ap, _∙_, subst}
 use mathlib.Core.Bool.{Bool, true, false, cond, not, _&&_, _||_, true≢false}
 use mathlib.Core.List.{List, [], _∷_, _++_}
-use lib.ListN.{length, drop}
+use lib.ListN.{length}
 use lib.Dec.{T, ltb, leb, eqb}
 use borrow.Author.Tests.{not-true, eqb-true, leb-true, le-leb, le-ltb}
 use Rattle.ground.specs.Choice.{oneOf, pick, first, all}
-use Rattle.ground.proofs.Bools.{both, join, no-second}
+use Rattle.ground.proofs.Bools.{both}
 use Rattle.slots.specs.Layout.{countIn, clearedIn, withCode}
 use Rattle.ladder.specs.Message.{securityCode, listedCode, listedEntry, listedBook, entries}
 use Rattle.ladder.specs.Walk.{emptyBook, bookAfter}
 use Rattle.books.specs.Table.{books, placeIn, noneFree, bookIn, bookStep, misfit, hasEntries, noSlot, misfits, unsound, booksAfter}
 use Rattle.books.proofs.Frames.{Filled, none-filled, room, books-filled}
-use Rattle.feed.specs.Messages.{kind, onMarket, market, book, wrongSize, listed, statusOf, logonStatus, lastInternal}
-use Rattle.feed.specs.Feeds.{is, deaf, inPhase, internalIs, colour, badgeNo, badge, badgeOf, listedLimit}
+use Rattle.feed.specs.Messages.{kind, onMarket, market, book, wrongSize, listed, statusOf, logonStatus}
+use Rattle.feed.specs.Feeds.{is, deaf, internalIs, badgeNo, badge, badgeOf, listedLimit}
 use Rattle.feed.specs.Events.{Tables, State, Event, Connect, News, Linked, More, Heartbeat, Message, news, timeOf, onMessage}
-use Rattle.feed.specs.Answers.{number, arrives, lacksNeed, isMore, lastSeqNum, isNext, allowed, seen, ofBook, passed, lineTests, tableTests, tests, answerTo, reply}
+use Rattle.feed.specs.Answers.{number, arrives, lacksNeed, isMore, lastSeqNum, isNext, allowed, seen, ofBook, passed, lineTests, tableTests, tests, answerTo}
 use Rattle.feed.specs.declared.Answer.{Answer}
 use Rattle.feed.specs.declared.Answer.the-variants.{Skip, Take}
-use Rattle.feed.specs.Steps.{onFeed, cleared, enterLive, connected, loggedOn, tablesAfter, does, advanced, counted, taken, act, accepted, handed, outcome}
+use Rattle.feed.specs.Steps.{onFeed, cleared, enterLive, loggedOn, tablesAfter, does, advanced, counted, taken, act, accepted, handed, outcome}
 use Rattle.feed.specs.declared.Phase.{Phase}
 use Rattle.feed.specs.declared.Phase.the-variants.{WaitKey, WaitLogon, Refreshing, Live}
 use Rattle.feed.specs.declared.Kind.{Kind}
@@ -38,14 +38,14 @@ use Rattle.promises.specs.Demands.{Bytes, handsBytes, letsIn}
 use Rattle.promises.specs.Refusals.{ending}
 use Rattle.promises.specs.GoodMorning as G
 use Rattle.promises.specs.Refusals.{ending}
-use Rattle.promises.specs.GoodMorning.{Stage, NeedsKey, NeedsLogon, Fills, Open, stageNo, on, Talk, begins, toStage, lastIs, tells, spoken, due, again, fits, good, fairNews, fair, afterLogon, told, says, saidNews, talk, fairly}
+use Rattle.promises.specs.GoodMorning.{Stage, NeedsKey, NeedsLogon, Fills, Open, stageNo, on, Talk, begins, toStage, spoken, due, again, fits, good, fairNews, fair, afterLogon, told, says, saidNews, talk, fairly}
 use Rattle.promises.proofs.Steps.{Any, any, noted as no-note, on-step, on-run}
 use Rattle.promises.proofs.Badges as B
 use Rattle.promises.proofs.Badges.{new-limit, counted-phase}
 use Rattle.promises.proofs.Replays.{counted-fresh}
 use Rattle.promises.proofs.Soundness as S
 use Rattle.promises.proofs.Soundness.{OfBytes, bytes-news}
-use Rattle.promises.proofs.Morning.{sound-row, run-append, recall-append}
+use Rattle.promises.proofs.Morning.{sound-row, run-append}
 use Rattle.promises.proofs.Ledgers.{does-next, counted-next}
 
 -- the phase of a stage

@@ -1,13 +1,13 @@
 -- The feed's numbers are those of the ledger, over every run. Assumes nothing.
-use Prim.Native.Nat.{ℕ, zero, suc, _+_, _<_}
+use Prim.Native.Nat.{ℕ, suc, _+_, _<_}
 use native.Mathlib.Omega.{arith}
 use mathlib.Core.Path.{_≡_, refl, sym, ap, _∙_, subst}
-use mathlib.Core.Bool.{Bool, true, false, cond, not, _&&_, _||_, true≢false}
+use mathlib.Core.Bool.{Bool, true, false, cond, not, _&&_, true≢false}
 use mathlib.Core.List.{List, [], _∷_, _++_}
 use lib.ListN.{length, length-append}
-use lib.Dec.{T, ltb, leb, eqb}
+use lib.Dec.{T, ltb, eqb}
 use borrow.Author.Tests.{not-false, eqb-true, leb-false, lt-ltb}
-use Rattle.ground.specs.Choice.{oneOf, first, all}
+use Rattle.ground.specs.Choice.{oneOf, all}
 use Rattle.ground.proofs.Bools.{both, split}
 use Rattle.ground.proofs.Choices.{first-may, first-skips, each-has}
 use Rattle.feed.specs.Messages.{kind, onMarket, market, statusOf, logonStatus, lastInternal}
@@ -16,7 +16,7 @@ use Rattle.feed.specs.Events.{State, Event, News, Linked, More, Heartbeat, Mess
 use Rattle.feed.specs.Answers.{number, arrives, lacksNeed, isMore, isNext, allowed, seen, lineTests, tableTests, tests, answerTo, reply}
 use Rattle.feed.specs.declared.Answer.{Answer}
 use Rattle.feed.specs.declared.Answer.the-variants.{Keep, Lose, Spoil, Skip, Take}
-use Rattle.feed.specs.Steps.{onFeed, cleared, enterLive, connected, loggedOn, does, advanced, counted, taken, act, accepted, handed, outcome}
+use Rattle.feed.specs.Steps.{onFeed, cleared, enterLive, loggedOn, does, advanced, counted, taken, act, handed, outcome}
 use Rattle.feed.specs.declared.Phase.{Phase}
 use Rattle.feed.specs.declared.Phase.the-variants.{Idle, WaitKey, WaitLogon, Refreshing, Live, Lost, Closed}
 use Rattle.feed.specs.declared.Kind.{Kind}
@@ -29,9 +29,9 @@ use Rattle.feed.specs.declared.Feed.{Feed}
 use Rattle.feed.proofs.Laws.{numbered}
 use Rattle.promises.specs.Refusals.{keeping, losing, spoiling}
 use Rattle.promises.specs.Runs.{start, after, run, trace, History, noHistory, note, recall, history}
-use Rattle.promises.specs.Ledger.{Ledger, noLedger, forget, sees, meets, clears, enters, spoils, completes, takes, isLive, enterStatus, enterTaken, enterAccepted, enterCame, enter, keep, ledger, upTo, rising, lastOf}
+use Rattle.promises.specs.Ledger.{Ledger, noLedger, sees, meets, clears, enters, spoils, takes, isLive, enterStatus, enterTaken, enterAccepted, enterCame, enter, keep, ledger, upTo, rising, lastOf}
 use Rattle.promises.proofs.Refused.{proper, reply-proper}
-use Rattle.promises.proofs.Steps.{Fine, fine, OfNews, Any, any-news, any, on-step}
+use Rattle.promises.proofs.Steps.{Fine, fine, Any, any-news, on-step}
 use Rattle.promises.proofs.Badges as B
 use Rattle.promises.proofs.Badges.{Agree, is-same, new-feed}
 use Rattle.promises.proofs.Replays as R

@@ -1,22 +1,20 @@
 -- No hole under a green badge, proved: each is named as its statement in specs/NoHole, with a small letter. Assumes nothing.
-use Prim.Native.Nat.{ℕ, _+_}
-use mathlib.Core.Path.{_≡_, refl, sym, ap, _∙_, subst}
+use Prim.Native.Nat.{_+_}
+use mathlib.Core.Path.{_≡_, refl, sym, _∙_}
 use mathlib.Core.Bool.{Bool, true, false, cond, not, _&&_, true≢false}
-use mathlib.Core.List.{List, [], _∷_}
+use mathlib.Core.List.{[], _∷_}
 use lib.Dec.{ltb, leb, eqb}
 use Rattle.ground.specs.Choice.{first}
-use Rattle.feed.specs.Feeds.{phaseNo, is, deaf, listedLimit, colour, badgeNo, badge, badgeOf}
-use Rattle.feed.specs.Events.{State, Event, Connect, Message, news, timeOf, onMessage}
+use Rattle.feed.specs.Feeds.{is, deaf, listedLimit, colour, badgeNo, badge}
+use Rattle.feed.specs.Events.{news, timeOf, onMessage}
 use Rattle.feed.specs.Answers.{number, arrives, lacksNeed, isMore, lineTests, tableTests, tests}
 use Rattle.feed.specs.declared.Answer.{Answer}
 use Rattle.feed.specs.declared.Answer.the-variants.{Keep}
-use Rattle.feed.specs.Steps.{accepted, handed, outcome}
+use Rattle.feed.specs.Steps.{handed, outcome}
 use Rattle.feed.specs.declared.Phase.{Phase}
 use Rattle.feed.specs.declared.Phase.the-variants.{Idle, WaitKey, WaitLogon, Refreshing, Live, Lost, Closed}
 use Rattle.feed.specs.declared.Feed.{Feed}
-use Rattle.feed.specs.declared.Link.the-variants.{Fresh, Resuming}
-use Rattle.promises.specs.Runs.{start, run, history}
-use Rattle.promises.specs.Ledger.{ledger}
+use Rattle.promises.specs.Runs.{start, run}
 use Rattle.promises.specs.NoHole as N
 use Rattle.promises.proofs.Demands.{next}
 use Rattle.promises.proofs.Ledgers.{on-ledger}

@@ -3,7 +3,7 @@ use Prim.Native.Nat.{ℕ, zero, suc, _≤_}
 use native.Mathlib.Omega.{arith}
 use native.Mathlib.Nat.{le-of-suc-le-suc}
 use mathlib.Core.Path.{_≡_, refl, sym, ap, _∙_, subst}
-use mathlib.Core.Bool.{Bool, true, false, cond, _&&_, true≢false}
+use mathlib.Core.Bool.{Bool, true, false, cond, _&&_}
 use mathlib.Core.List.{List, [], _∷_, _++_, append-assoc, append-nil}
 use lib.ListN.{length, drop}
 use lib.Dec.{T, ltb}
@@ -13,9 +13,8 @@ use Rattle.wire.specs.declared.Unit.the-variants as unit
 use Rattle.feed.specs.Feeds.{deaf}
 use Rattle.feed.specs.Events.{State, Event, Arrive, News, news, timeOf, cutFrom, onMessage}
 use Rattle.feed.specs.Answers.{number, arrives, lacksNeed, isMore, lineTests, tableTests, tests, answerTo}
-use Rattle.feed.specs.declared.Answer.{Answer}
-use Rattle.feed.specs.declared.Answer.the-variants.{Keep, Take}
-use Rattle.feed.specs.Steps.{accepted, Outcome, handed, outcome}
+use Rattle.feed.specs.declared.Answer.the-variants.{Keep}
+use Rattle.feed.specs.Steps.{accepted, handed, outcome}
 use Rattle.feed.proofs.Laws.{used-fits}
 use Rattle.promises.specs.Runs.{after}
 use Rattle.promises.specs.Pieces as P

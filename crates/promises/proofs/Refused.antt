@@ -1,6 +1,6 @@
 -- First laws of a step: one outcome, an answer of document 01, and what an answer other than 0, 1 and 2 leaves. Assumes nothing.
 use Prim.Native.Nat.{ℕ}
-use mathlib.Core.Path.{_≡_, refl, sym, _∙_}
+use mathlib.Core.Path.{_≡_, refl}
 use mathlib.Core.Bool.{Bool, false, true≢false}
 use mathlib.Core.List.{List, [], _∷_}
 use lib.Dec.{T}
@@ -11,14 +11,10 @@ use Rattle.wire.specs.declared.Unit.the-variants as unit
 use Rattle.ground.proofs.Choices.{first-may, each-has}
 use Rattle.feed.specs.Events.{State, Event, Connect, Arrive, Cut, timeOf, News, news, cutFrom, onMessage}
 use Rattle.feed.specs.Answers.{number, arrives, lacksNeed, isMore, lineTests, tableTests, tests, answerTo, reply}
-use Rattle.feed.specs.Steps.{act, accepted, usedOf, Outcome, handed, outcome}
+use Rattle.feed.specs.Steps.{act, accepted, usedOf, handed, outcome}
 use Rattle.feed.specs.declared.Answer.{Answer}
 use Rattle.feed.specs.declared.Answer.the-variants.{Keep, Lose, Spoil, Skip, Take}
 use Rattle.promises.specs.Refusals.{answersTo, keeping, losing, spoiling, feedRefused, refusal}
-
--- any two outcomes of a step are equal
-pub one-outcome : (s : State) (e : Event) (a b : Outcome) → a ≡ outcome s e → b ≡ outcome s e → a ≡ b
-one-outcome s e a b p q = p ∙ sym q
 
 among : Event → Answer → Bool
 among e a = oneOf (number a) (answersTo e)

@@ -1,12 +1,15 @@
--- What DECISIONS 38 and 104 say, as statements. Each is proved in proofs/Decisions, under its name with a small letter. Assumes nothing.
+-- What DECISIONS 38, 103 and 104 say, as statements (of 103 the first half is Never18). Each is proved in proofs/Decisions, under its name with a small letter. Assumes nothing.
 use Prim.Native.Nat.{ℕ}
 use mathlib.Core.Path.{_≡_}
 use mathlib.Core.Bool.{Bool, true, false, not, _&&_}
 use mathlib.Core.List.{List, [], _∷_}
 use lib.Dec.{T}
+use Rattle.ground.specs.Choice.{oneOf}
+use Rattle.wire.specs.Number.{bytesOnly}
 use Rattle.books.specs.Table.{noSlot, misfits}
 use Rattle.feed.specs.Events.{Tables, State, Event}
 use Rattle.feed.specs.Steps.{outcome}
+use Rattle.feed.specs.Program.{programRun}
 use Rattle.feed.specs.declared.Phase.the-variants.{Refreshing, Live}
 use Rattle.promises.specs.Runs.{zeroed, endOf, Deed, Took, tale, perform}
 
@@ -22,6 +25,10 @@ abbrev pub OnlyLiveSets : Type 0
 OnlyLiveSets =
     (s : State) (e : Event) → s .feed .whole ≡ false → outcome s e .given .feed .whole ≡ true
     → outcome s e .given .feed .phase ≡ Live
+
+-- 103. "the program ends in 3 or 11 to 17 only", whatever bytes come
+abbrev pub ProgramEnds : Type 0
+ProgramEnds = (s : List ℕ) → T (bytesOnly s) → T (oneOf (programRun s .answer) (3 ∷ 11 ∷ 12 ∷ 13 ∷ 14 ∷ 15 ∷ 16 ∷ 17 ∷ []))
 
 -- 104. Replay: "no replayed message misfits", and each finds a slot
 unfoldable pub fitsDeed : Deed → Tables → Bool

@@ -24,7 +24,7 @@ use Rattle.feed.specs.Messages.{kind, statusOf, logonStatus}
 use Rattle.feed.specs.Feeds.{newGiven}
 use Rattle.feed.specs.Events.{State, Event, Connect, Arrive, Cut, Message, news, timeOf, onMessage}
 use Rattle.feed.specs.Answers.{number, tests}
-use Rattle.feed.specs.Steps.{accepted, Outcome, outcome}
+use Rattle.feed.specs.Steps.{accepted, outcome}
 use Rattle.feed.specs.declared.Answer.{Answer}
 use Rattle.feed.specs.declared.Kind.{Kind}
 use Rattle.feed.specs.declared.Kind.the-variants.{Session, Market}
@@ -33,7 +33,7 @@ use Rattle.feed.specs.declared.Datum.the-variants as datum
 use Rattle.feed.specs.declared.Status.{Status}
 use Rattle.feed.specs.declared.Status.the-variants.{Opens, Refills, Stays, Closes, Unlisted}
 use Rattle.promises.specs.Refusals.{answersTo, ending, refusal}
-use Rattle.promises.specs.Runs.{zeroed, start, after, run, answerOf, trace, endOf, tale, isGreen, green, replay, replayOn}
+use Rattle.promises.specs.Runs.{zeroed, start, after, answerOf, trace, endOf, tale, isGreen, green, replay, replayOn}
 
 -- the rows of document 01's table of answers for a call
 abbrev pub rowsFor : State → Event → List (Bool × Answer)

@@ -13,7 +13,7 @@ use Rattle.ladder.specs.Walk.{emptyBook, bookAfter}
 use Rattle.books.specs.Table.{books, hasEntries, misfit}
 use Rattle.feed.specs.Messages.{kind, wrongSize, listed, statusOf, logonStatus, lastInternal}
 use Rattle.feed.specs.Feeds.{badgeNo, badgeOf}
-use Rattle.feed.specs.Events.{State, Event, Connect, News, Linked, More, Heartbeat, Message, news, timeOf}
+use Rattle.feed.specs.Events.{Event, Connect, News, Linked, More, Heartbeat, Message, news, timeOf}
 use Rattle.feed.specs.Answers.{lastSeqNum}
 use Rattle.feed.specs.Steps.{accepted}
 use Rattle.feed.specs.declared.Kind.{Kind}

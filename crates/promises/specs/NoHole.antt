@@ -1,12 +1,12 @@
 -- No hole under a green badge: what the SeqNums and internal numbers of every run are, from its events and answers alone. Each is proved in
 -- proofs/NoHole, under its name with a small letter. Assumes nothing.
-use Prim.Native.Nat.{ℕ, _+_, _≤_}
+use Prim.Native.Nat.{ℕ, _+_}
 use mathlib.Core.Path.{_≡_}
 use mathlib.Core.Bool.{true, cond, _&&_}
 use mathlib.Core.List.{List}
 use lib.ListN.{length}
 use lib.Dec.{T, ltb, leb}
-use Rattle.feed.specs.Events.{State, Event, Connect, Message, news}
+use Rattle.feed.specs.Events.{Event, Connect, Message, news}
 use Rattle.feed.specs.Steps.{accepted}
 use Rattle.feed.specs.declared.Link.the-variants.{Fresh, Resuming}
 use Rattle.promises.specs.Runs.{start, answerOf, endOf, tale, isGreen}

@@ -7,7 +7,7 @@ use native.Mathlib.Numerals.{add-one}
 use native.Mathlib.Omega.{arith}
 use lib.ListN.{length, take, drop, getD, length-append, length-take, length-drop, take-append-drop, drop-of-length-le}
 use lib.Seq.{drop-drop, take-at, drop-at, length-take-le, sets, sets-eq, take-suc}
-use Rattle.slots.specs.Slots.{blocks, put, flat}
+use Rattle.slots.specs.Slots.{blocks, flat}
 use Rattle.slots.specs.Code.Overlay.{overlay}
 use Rattle.slots.proofs.Blocks.{blocks-cons}
 
@@ -40,10 +40,6 @@ overlay-join p q a b t e h =
 -- an overlay of the whole
 pub overlay-whole : (b t : List ℕ) → length b ≡ length t → overlay 0 b t ≡ b
 overlay-whole b t e = ap (λ (l : List ℕ). b ++ l) (drop-of-length-le t {i = length b} (omega arith)) ∙ append-nil b
-
--- an overlay of w words at w * k is a block put
-pub overlay-put : (w k : ℕ) (b t : List ℕ) → length b ≡ w → overlay (w * k) b t ≡ put w k b t
-overlay-put w k b t e = ap (λ (n : ℕ). take (w * k) t ++ (b ++ drop n (drop (w * k) t))) e
 
 -- the words of blocks and of more blocks
 pub flat-append : (a b : List (List ℕ)) → flat (a ++ b) ≡ flat a ++ flat b

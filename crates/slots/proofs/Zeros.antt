@@ -55,13 +55,6 @@ module _ (most w : ℕ) (t : List ℕ) where
       let n = slotCount most w (length t) in
       drop-at (replicate (w * n) 0) (drop (w * n) t) (w * n) (length-replicate (w * n) 0)
 
-  -- clearing again changes nothing
-  pub cleared-again : cleared most w (cleared most w t) ≡ cleared most w t
-  unfolding cleared
-  cleared-again =
-      ap (λ (n : ℕ). replicate (w * n) 0 ++ drop (w * n) (cleared most w t)) same-count
-      ∙ ap (λ (l : List ℕ). replicate (w * slotCount most w (length t)) 0 ++ l) tail-cleared
-
   -- no code has a slot
   pub lowest-cleared : (c : ℕ) → (c ≡ 0 → ⊥) → lowest c (slotsOf most w (cleared most w t)) ≡ slotCount most w (length t)
   lowest-cleared c nz = ap (lowest c) slots-cleared ∙ lowest-zero w (slotCount most w (length t)) c nz

@@ -1,7 +1,7 @@
 // Numbers in bytes, and the unit at the front of a stream (document 01, "One unit").
 ghost use mathlib.Core.Path.{_≡_};
 ghost use Prim.Native.Nat.{_+_, _^_, _≤_, _<_};
-ghost use lib.ListN.{length, getD, drop};
+ghost use lib.ListN.{length, drop};
 ghost use lib.IntN.{subℕ};
 ghost use Rattle.wire.specs.Number.{field, bias, biased as biasedOf};
 ghost use Rattle.wire.specs.Units.{unitOf, messageIn};

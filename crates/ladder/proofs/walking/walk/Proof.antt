@@ -1,5 +1,4 @@
 use Prim.Native.Nat.{_-_}
-use borrow.Author.Needs.{needs}
 use Rattle.ladder.proofs.Walks.{walking, Walking, walk-side}
 use Rattle.ladder.proofs.walking.walk.Statement.{statement}
 use Rattle.ladder.proofs.walking.walk.Tie as tie
