@@ -218,7 +218,7 @@ module _ (base : ℕ) (w : List ℕ) where
     same = rw (drop-cons (rowsFrom base w) 9 noRow (omega (arith, rows-ten base w)), drop-of-length-le (rowsFrom base w) {i = depth} (omega (arith, rows-ten base w)));
   }
 
-  pub order-goes : (way : Way) (found i x : ℕ) (fine : Bool) → Ordering way found i → 0 < i → fine ≡ better way (getD w (base + rowWidth * i - 3) 0) (getD w (base + rowWidth * i) 0) → x ≡ cond fine found i
+  pub order-goes : (way : Way) (found i x : ℕ) (fine : Bool) → Ordering way found i → 0 < i → fine ≡ better way (getD w (base + rowWidth * i - rowWidth) 0) (getD w (base + rowWidth * i) 0) → x ≡ cond fine found i
       → Ordering way x (i - 1)
   unfolding inOrder
   order-goes way found i x fine p h e q =

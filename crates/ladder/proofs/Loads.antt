@@ -25,7 +25,7 @@ pub row-is : (base : ℕ) (w : List ℕ) (i : ℕ) → i < depth → getD (rowsF
 unfolding rowsFrom
 row-is base w i h =
     List·getD-map rowOf (blocks rowWidth depth (drop base w)) i []
-    ∙ ap rowOf (block-at rowWidth depth i (drop base w) h ∙ ap (take 3) (drop-drop (rowWidth * i) base w))
+    ∙ ap rowOf (block-at rowWidth depth i (drop base w) h ∙ ap (take rowWidth) (drop-drop (rowWidth * i) base w))
     ∙ front (drop (base + rowWidth * i) w)
   where
     front : (l : List ℕ) → rowOf (take rowWidth l) ≡ rowOf l

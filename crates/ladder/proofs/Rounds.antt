@@ -75,18 +75,18 @@ module _ (c : ℕ) (b : Book) where
     offers = ((λ j. take (offer-count-back j) (offers-back j)) ∙ live-of (b .offers) k) i;
   }
 
--- three words are those of their row
-three : (b : List ℕ) → length b ≡ 3 → rowWords (rowOf b) ≡ b
-three [] e = absurd (omega arith)
-three (x ∷ []) e = absurd (omega arith)
-three (x ∷ y ∷ []) e = absurd (omega arith)
-three (x ∷ y ∷ z ∷ []) e = refl
-three (x ∷ y ∷ z ∷ v ∷ l) e = absurd (omega arith)
+-- the words of a row are those of what is read from them
+as-row : (b : List ℕ) → length b ≡ rowWidth → rowWords (rowOf b) ≡ b
+as-row [] e = absurd (omega arith)
+as-row (x ∷ []) e = absurd (omega arith)
+as-row (x ∷ y ∷ []) e = absurd (omega arith)
+as-row (x ∷ y ∷ z ∷ []) e = refl
+as-row (x ∷ y ∷ z ∷ v ∷ l) e = absurd (omega arith)
 
 -- and so of all rows
-words-back : (bs : List (List ℕ)) → Wide 3 bs → map rowWords (map rowOf bs) ≡ bs
+words-back : (bs : List (List ℕ)) → Wide rowWidth bs → map rowWords (map rowOf bs) ≡ bs
 words-back [] p = refl
-words-back (b ∷ bs) p = λ i. three b (p .0) i ∷ words-back bs (p .1) i
+words-back (b ∷ bs) p = λ i. as-row b (p .0) i ∷ words-back bs (p .1) i
 
 -- a side read by value is written as it stood
 side-again : (base n : ℕ) (w : List ℕ) → base + sideWidth ≤ length w → Padded (record { n = n; rows = rowsFrom base w }) → sideWords (take n (rowsFrom base w)) ≡ take sideWidth (drop base w)

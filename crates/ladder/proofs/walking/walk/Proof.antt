@@ -1,5 +1,6 @@
+use mathlib.Core.Bool.{true}
 use Prim.Native.Nat.{_-_}
-use Rattle.ladder.proofs.Walks.{walking, Walking, walk-side}
+use Rattle.ladder.proofs.Walks.{walking, Walking, walk-side, fits-told}
 use Rattle.ladder.proofs.walking.walk.Statement.{statement}
 use Rattle.ladder.proofs.walking.walk.Tie as tie
 
@@ -12,12 +13,21 @@ abbrev μ-walk : tie.MeasureT-walk
 -- the one place where an entry is applied
 walk-again-2 : tie.Need-walk-again-2 Inv-walk μ-walk
 walk-again-2 c =
-    let d = c .before .before .before .before .before .before .before .before .before in
-    let e = d .before .before .before .before .before .before .before .entry-at in
-    let h = d .before .before .before .before .before .before .before .before .before .walk in
+    let fit = c .before .before .before in
+    let told = fit .before .fits-at in
+    let up = fit .before .before .before .before .place-above in
+    let way = fit .before .before .before .before .before .way-of in
+    let side = fit .before .before .before .before .before .before in
+    let action = side .before .before .before .before in
+    let e = action .before .before .before .entry-at in
+    let more = action .before .before .before .before in
+    let h = more .before .walk in
     let r = c .before .rows-after in
-    walk-side _ _ _ _ _ _ _ (h .rows) (h .counts) (h .i) (h .inv) (d .before .before .before .before .before .before .before .before .if1 .left) (e .result) (e .ensures) (r .result) (c .count-after .result)
-    (d .before .before .before .before .if2 .left) (d .if5 .left) (search walking) (r .ensures) (c .count-after .ensures)
+    let k = c .count-after in
+    walk-side _ _ _ _ _ _ _ (h .rows) (h .counts) (h .i) (h .inv) (more .if1 .left) (e .result) (e .ensures) (r .result) (k .result) (action .if2 .left) (side .if5 .left)
+    (fits-told (h .rows) (h .counts) (e .result) (way .result) true (told .result) (up .result) (h .inv .sides) (side .if5 .left)
+    (side .before .before .before .if3 .left) (side .before .before .if4 .left) (way .ensures) (up .ensures) (told .ensures) (fit .if6 .taken))
+    (r .ensures) (k .ensures)
 
 pub walk-spec : {M : Type 1} → statement M
 walk-spec =
