@@ -93,8 +93,8 @@ pub fn walk(
             old.price,
             row.price,
         ) {
-            rows[w] = rows_after(rows[w], e);
             counts[w] = count_after(count, e.action);
+            rows[w] = rows_after(rows[w], e);
             continue 'walk;
         }
         break 'walk 16;

@@ -22,8 +22,8 @@ walk-again-2 c =
     let e = action .before .before .before .entry-at in
     let more = action .before .before .before .before in
     let h = more .before .walk in
-    let r = c .before .rows-after in
-    let k = c .count-after in
+    let r = c .rows-after in
+    let k = c .before .before .count-after in
     walk-side _ _ _ _ _ _ _ (h .rows) (h .counts) (h .i) (h .inv) (more .if1 .left) (e .result) (e .ensures) (r .result) (k .result) (action .if2 .left) (side .if5 .left)
     (fits-told (h .rows) (h .counts) (e .result) (way .result) true (told .result) (up .result) (h .inv .sides) (side .if5 .left)
     (side .before .before .before .if3 .left) (side .before .before .if4 .left) (way .ensures) (up .ensures) (told .ensures) (fit .if6 .taken))
@@ -56,12 +56,12 @@ walk-spec =
     (λ c. search walking)
     (λ c. search walking)
     (λ c κs. search walking)
+    (λ c κs. (search walking, search walking))
+    (λ c. search walking)
+    (λ c. search walking)
     (λ c. search walking)
     (λ c. search walking)
     (λ c κs. search walking)
-    (λ c. search walking)
-    (λ c. search walking)
-    (λ c κs. (search walking, search walking))
     (λ c. search walking)
     (λ c. search walking)
     (λ c. search walking)
