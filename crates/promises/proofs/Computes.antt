@@ -200,7 +200,7 @@ unfolding promises-Tables.on promises-Tables.refused promises-Tables.firstBid pr
 promises-tables = 0
 
 unfoldable promises-traps : ℕ
-unfolding promises-Traps.traps promises-Traps.mornings promises-Traps.sameLines promises-Traps.prints promises-Traps.example10 promises-Traps.line10 promises-Traps.programs promises-Traps.programs2 promises-Traps.asked promises-Traps.badges
+unfolding promises-Traps.traps promises-Traps.mornings promises-Traps.sameLines promises-Traps.prints promises-Traps.example10 promises-Traps.line10 promises-Traps.programs promises-Traps.programs2 promises-Traps.longKey promises-Traps.rooms promises-Traps.asked promises-Traps.badges
 promises-traps = 0
 
 unfoldable promises-widths : ℕ

@@ -163,6 +163,10 @@ pub programs2-hold : wrong Traps.programs2 ≡ []
 unfolding computes
 programs2-hold = refl
 
+pub rooms-hold : wrong Traps.rooms ≡ []
+unfolding computes
+rooms-hold = refl
+
 pub badges-hold : wrong Traps.badges ≡ []
 unfolding computes
 badges-hold = refl
