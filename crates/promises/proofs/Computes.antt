@@ -164,7 +164,7 @@ unfolding promises-Ledger.enterStatus promises-Ledger.enterTaken promises-Ledger
 promises-ledger = 0
 
 unfoldable promises-mornings : ℕ
-unfolding promises-Mornings.twoBids promises-Mornings.better promises-Mornings.tenth promises-Mornings.logsOn promises-Mornings.day promises-Mornings.refilled promises-Mornings.allows promises-Mornings.forbids promises-Mornings.talks promises-Mornings.keeps promises-Mornings.resumed promises-Mornings.ledgers
+unfolding promises-Mornings.twoBids promises-Mornings.better promises-Mornings.tenth promises-Mornings.logsOn promises-Mornings.day promises-Mornings.refilled promises-Mornings.allows promises-Mornings.forbids promises-Mornings.talks promises-Mornings.keeps promises-Mornings.resumed promises-Mornings.ledgers promises-Mornings.sameTimes promises-Mornings.recounts promises-Mornings.greenFrom promises-Mornings.dark promises-Mornings.threeBids promises-Mornings.oneBid promises-Mornings.freeSlot promises-Mornings.logonThen promises-Mornings.connectsAgain promises-Mornings.ofCode promises-Mornings.twoCodes promises-Mornings.tales promises-Mornings.endings
 promises-mornings = 0
 
 unfoldable promises-phases : ℕ
@@ -192,7 +192,7 @@ unfolding promises-Sizes.torn promises-Sizes.quiet promises-Sizes.withLength pro
 promises-sizes = 0
 
 unfoldable promises-statuses : ℕ
-unfolding promises-Statuses.freshly promises-Statuses.resumed promises-Statuses.wiped promises-Statuses.logons promises-Statuses.others promises-Statuses.answered promises-Statuses.allStatuses
+unfolding promises-Statuses.freshly promises-Statuses.resumed promises-Statuses.wiped promises-Statuses.logons promises-Statuses.others promises-Statuses.answersBelow promises-Statuses.listedBelow promises-Statuses.all256 promises-Statuses.allStatuses
 promises-statuses = 0
 
 unfoldable promises-tables : ℕ

@@ -178,3 +178,11 @@ talks-hold = refl
 pub ledgers-hold : wrong Mornings.ledgers ≡ []
 unfolding computes
 ledgers-hold = refl
+
+pub tales-hold : wrong Mornings.tales ≡ []
+unfolding computes
+tales-hold = refl
+
+pub endings-hold : wrong Mornings.endings ≡ []
+unfolding computes
+endings-hold = refl
