@@ -44,6 +44,7 @@ use Rattle.promises.specs.Sizes as promises-Sizes
 use Rattle.promises.specs.Statuses as promises-Statuses
 use Rattle.promises.specs.Tables as promises-Tables
 use Rattle.promises.specs.Traps as promises-Traps
+use Rattle.promises.specs.Widths as promises-Widths
 
 unfoldable ground-choice : ℕ
 unfolding ground-Choice.oneOf ground-Choice.pick ground-Choice.first ground-Choice.all
@@ -142,7 +143,7 @@ unfolding promises-Answering.oneCall promises-Answering.fed promises-Answering.l
 promises-answering = 0
 
 unfoldable promises-build : ℕ
-unfolding promises-Build.bytes promises-Build.joined promises-Build.unit promises-Build.heartbeat promises-Build.message promises-Build.sendKey promises-Build.logon promises-Build.logout promises-Build.refresh promises-Build.complete promises-Build.entry promises-Build.bookMessage promises-Build.fill promises-Build.row promises-Build.block promises-Build.feed promises-Build.state promises-Build.start promises-Build.arrives promises-Build.gets promises-Build.ends promises-Build.case promises-Build.logsOn
+unfolding promises-Build.bytes promises-Build.joined promises-Build.header promises-Build.unit promises-Build.heartbeat promises-Build.message promises-Build.sendKey promises-Build.logon promises-Build.logout promises-Build.refresh promises-Build.complete promises-Build.entry promises-Build.bookMessage promises-Build.fill promises-Build.row promises-Build.block promises-Build.feed promises-Build.state promises-Build.start promises-Build.arrives promises-Build.gets promises-Build.ends promises-Build.case promises-Build.logsOn
 promises-build = 0
 
 unfoldable promises-checks : ℕ
@@ -178,7 +179,7 @@ unfolding promises-Ledger.enterStatus promises-Ledger.enterTaken promises-Ledger
 promises-ledger = 0
 
 unfoldable promises-mornings : ℕ
-unfolding promises-Mornings.twoBids promises-Mornings.better promises-Mornings.tenth promises-Mornings.logsOn promises-Mornings.day promises-Mornings.refilled promises-Mornings.allows promises-Mornings.forbids promises-Mornings.talks promises-Mornings.keeps promises-Mornings.resumed promises-Mornings.ledgers
+unfolding promises-Mornings.twoBids promises-Mornings.better promises-Mornings.tenth promises-Mornings.logsOn promises-Mornings.day promises-Mornings.refilled promises-Mornings.allows promises-Mornings.forbids promises-Mornings.talks promises-Mornings.keeps promises-Mornings.resumed promises-Mornings.ledgers promises-Mornings.sameTimes promises-Mornings.recounts promises-Mornings.greenFrom promises-Mornings.dark promises-Mornings.threeBids promises-Mornings.oneBid promises-Mornings.freeSlot promises-Mornings.logonThen promises-Mornings.connectsAgain promises-Mornings.ofCode promises-Mornings.twoCodes promises-Mornings.tales promises-Mornings.endings
 promises-mornings = 0
 
 unfoldable promises-phases : ℕ
@@ -202,21 +203,25 @@ unfolding promises-Section6.turns promises-Section6.bidsFrom9730 promises-Sectio
 promises-section6 = 0
 
 unfoldable promises-sizes : ℕ
-unfolding promises-Sizes.torn promises-Sizes.quiet promises-Sizes.withLength promises-Sizes.headed promises-Sizes.more promises-Sizes.heartbeats promises-Sizes.tiny promises-Sizes.wrongly promises-Sizes.sizes promises-Sizes.sequence
+unfolding promises-Sizes.torn promises-Sizes.quiet promises-Sizes.withLength promises-Sizes.headed promises-Sizes.more promises-Sizes.heartbeats promises-Sizes.tiny promises-Sizes.wrongly promises-Sizes.sizes promises-Sizes.passes promises-Sizes.types promises-Sizes.sequence
 promises-sizes = 0
 
 unfoldable promises-statuses : ℕ
-unfolding promises-Statuses.freshly promises-Statuses.resumed promises-Statuses.wiped promises-Statuses.logons promises-Statuses.others promises-Statuses.answered promises-Statuses.allStatuses
+unfolding promises-Statuses.freshly promises-Statuses.resumed promises-Statuses.wiped promises-Statuses.logons promises-Statuses.others promises-Statuses.answersBelow promises-Statuses.listedBelow promises-Statuses.all256 promises-Statuses.allStatuses
 promises-statuses = 0
 
 unfoldable promises-tables : ℕ
-unfolding promises-Tables.on promises-Tables.refused promises-Tables.firstBid promises-Tables.opened promises-Tables.wipes promises-Tables.other promises-Tables.lengths promises-Tables.slots promises-Tables.three promises-Tables.sounds promises-Tables.row-is promises-Tables.no-row promises-Tables.rows
+unfolding promises-Tables.on promises-Tables.refused promises-Tables.firstBid promises-Tables.opened promises-Tables.wipes promises-Tables.other promises-Tables.lengths promises-Tables.slots promises-Tables.three promises-Tables.tenOffers promises-Tables.sounds promises-Tables.row-is promises-Tables.no-row promises-Tables.rows
 promises-tables = 0
 
 unfoldable promises-traps : ℕ
-unfolding promises-Traps.traps promises-Traps.mornings promises-Traps.sameLines promises-Traps.prints promises-Traps.example10 promises-Traps.line10 promises-Traps.programs promises-Traps.programs2 promises-Traps.asked promises-Traps.badges
+unfolding promises-Traps.traps promises-Traps.mornings promises-Traps.sameLines promises-Traps.prints promises-Traps.example10 promises-Traps.line10 promises-Traps.programs promises-Traps.programs2 promises-Traps.longKey promises-Traps.rooms promises-Traps.asked promises-Traps.badges
 promises-traps = 0
 
+unfoldable promises-widths : ℕ
+unfolding promises-Widths.widths
+promises-widths = 0
+
 unfoldable pub computes : ℕ
-unfolding bind ground-choice wire-number wire-units slots-code-turns slots-layout slots-slots ladder-code-arrays ladder-code-loading ladder-message ladder-sides ladder-walk ladder-words books-code-rows books-reading books-table feed-answers feed-code-judging feed-events feed-feeds feed-messages feed-program feed-reasons feed-steps promises-answering promises-build promises-checks promises-decisions promises-demands promises-desk promises-entries promises-goodmorning promises-leaves promises-ledger promises-mornings promises-phases promises-pieces promises-refusals promises-runs promises-section6 promises-sizes promises-statuses promises-tables promises-traps
+unfolding bind ground-choice wire-number wire-units slots-code-turns slots-layout slots-slots ladder-code-arrays ladder-code-loading ladder-message ladder-sides ladder-walk ladder-words books-code-rows books-reading books-table feed-answers feed-code-judging feed-events feed-feeds feed-messages feed-program feed-reasons feed-steps promises-answering promises-build promises-checks promises-decisions promises-demands promises-desk promises-entries promises-goodmorning promises-leaves promises-ledger promises-mornings promises-phases promises-pieces promises-refusals promises-runs promises-section6 promises-sizes promises-statuses promises-tables promises-traps promises-widths
 computes = 0

@@ -9,6 +9,7 @@ use Rattle.promises.specs.Phases as Phases
 use Rattle.promises.specs.Statuses as Statuses
 use Rattle.promises.specs.Sizes as Sizes
 use Rattle.promises.specs.Entries as Entries
+use Rattle.promises.specs.Widths as Widths
 use Rattle.promises.specs.Tables as Tables
 use Rattle.promises.specs.Traps as Traps
 use Rattle.promises.specs.Mornings as Mornings
@@ -102,6 +103,10 @@ pub sizes-hold : wrong Sizes.sizes ≡ []
 unfolding computes
 sizes-hold = refl
 
+pub types-hold : wrong Sizes.types ≡ []
+unfolding computes
+types-hold = refl
+
 pub sequence-hold : wrong Sizes.sequence ≡ []
 unfolding computes
 sequence-hold = refl
@@ -121,6 +126,10 @@ deletes-hold = refl
 pub walks-hold : wrong Entries.walks ≡ []
 unfolding computes
 walks-hold = refl
+
+pub widths-hold : wrong Widths.widths ≡ []
+unfolding computes
+widths-hold = refl
 
 pub lengths-hold : wrong Tables.lengths ≡ []
 unfolding computes
@@ -154,6 +163,10 @@ pub programs2-hold : wrong Traps.programs2 ≡ []
 unfolding computes
 programs2-hold = refl
 
+pub rooms-hold : wrong Traps.rooms ≡ []
+unfolding computes
+rooms-hold = refl
+
 pub badges-hold : wrong Traps.badges ≡ []
 unfolding computes
 badges-hold = refl
@@ -165,3 +178,11 @@ talks-hold = refl
 pub ledgers-hold : wrong Mornings.ledgers ≡ []
 unfolding computes
 ledgers-hold = refl
+
+pub tales-hold : wrong Mornings.tales ≡ []
+unfolding computes
+tales-hold = refl
+
+pub endings-hold : wrong Mornings.endings ≡ []
+unfolding computes
+endings-hold = refl

@@ -21,13 +21,17 @@ unfoldable pub joined : List (List ℕ) → List ℕ
 joined [] = []
 joined (x ∷ xs) = x ++ joined xs
 
--- a unit: the header of 20 bytes with MsgLength, SeqNum and InternalSeqNum, then the message
+-- a header of 20 bytes: MsgLength, filler, SeqNum, InternalSeqNum, SendTime. No byte that nobody looks at is zero, here and below
+unfoldable pub header : ℕ → ℕ → ℕ → List ℕ
+header len seq internal = bytes 2 len ++ bytes 2 0x4241 ++ bytes 4 seq ++ bytes 4 internal ++ bytes 8 1700000000123000000
+
+-- a unit: a header, then the message
 unfoldable pub unit : ℕ → ℕ → List ℕ → List ℕ
-unit seq internal m = bytes 2 (20 + length m) ++ bytes 2 0 ++ bytes 4 seq ++ bytes 4 internal ++ bytes 8 0 ++ m
+unit seq internal m = header (20 + length m) seq internal ++ m
 
 -- a heartbeat: a header whose MsgLength is 20
 unfoldable pub heartbeat : List ℕ
-heartbeat = bytes 2 20 ++ replicate 18 0
+heartbeat = header 20 0x64636261 0x74737271
 
 -- a message of a type with the bytes behind its type
 unfoldable pub message : ℕ → List ℕ → List ℕ
@@ -37,13 +41,13 @@ unfoldable pub sendKey : List ℕ
 sendKey = message 1105 []
 
 unfoldable pub logon : ℕ → List ℕ
-logon status = message 1102 (5 ∷ 0 ∷ status ∷ 30 ∷ [])
+logon status = message 1102 (5 ∷ 4 ∷ status ∷ 30 ∷ [])
 
 unfoldable pub logout : ℕ → List ℕ
-logout status = message 1103 (status ∷ 0 ∷ 0 ∷ 0 ∷ [])
+logout status = message 1103 (status ∷ 1 ∷ 2 ∷ 3 ∷ [])
 
 unfoldable pub refresh : ℕ → List ℕ
-refresh status = message 1202 (status ∷ 0 ∷ 0 ∷ 0 ∷ [])
+refresh status = message 1202 (status ∷ 1 ∷ 2 ∷ 3 ∷ [])
 
 unfoldable pub complete : ℕ → List ℕ
 complete internal = message 203 (bytes 4 internal)
@@ -51,10 +55,10 @@ complete internal = message 203 (bytes 4 internal)
 -- an entry: side, level, action; price in thousandths, quantity, orders
 unfoldable pub entry : ℕ → ℕ → ℕ → ℕ → ℕ → ℕ → List ℕ
 entry side level action price quantity orders =
-    bytes 8 quantity ++ bytes 4 price ++ bytes 4 orders ++ bytes 2 side ++ bytes 1 level ++ bytes 1 action ++ bytes 4 0
+    bytes 8 quantity ++ bytes 4 price ++ bytes 4 orders ++ bytes 2 side ++ bytes 1 level ++ bytes 1 action ++ bytes 4 0x34333231
 
 unfoldable pub bookMessage : ℕ → List (List ℕ) → List ℕ
-bookMessage code es = message 53 (bytes 4 code ++ bytes 3 0 ++ bytes 1 (length es) ++ joined es)
+bookMessage code es = message 53 (bytes 4 code ++ bytes 3 0x535251 ++ bytes 1 (length es) ++ joined es)
 
 -- words made up to n by zeros
 unfoldable pub fill : ℕ → List ℕ → List ℕ

@@ -35,6 +35,8 @@ news =
     ∷ makes "between two bids" bids offers (entry 0 2 0 25 8 9 ∷ []) (row 30 1 1 ∷ row 25 8 9 ∷ row 20 2 2 ∷ row 10 3 3 ∷ []) offers
     ∷ not "at the price above" bids offers (entry 0 2 0 30 8 9 ∷ []) 16
     ∷ not "at the price below" bids offers (entry 0 2 0 20 8 9 ∷ []) 16
+    ∷ not "at rank 3 of three, below the third bid" bids offers (entry 0 3 0 9 8 9 ∷ []) 16
+    ∷ not "at rank 3 of three, above the third offer" bids offers (entry 1 3 0 61 8 9 ∷ []) 16
     ∷ makes "behind the last bid" bids offers (entry 0 4 0 9 8 9 ∷ []) (bids ++ (row 9 8 9 ∷ [])) offers
     ∷ not "behind the last bid at its price" bids offers (entry 0 4 0 10 8 9 ∷ []) 16
     ∷ not "two behind the last bid" bids offers (entry 0 5 0 9 8 9 ∷ []) 16
@@ -46,6 +48,7 @@ news =
     ∷ makes "the tenth row" (tenRows 9) [] (entry 0 10 0 5 8 9 ∷ []) (tenRows 9 ++ (row 5 8 9 ∷ [])) []
     ∷ makes "rank 10 of ten rows drops the old tenth" (take 9 (tenRows 10) ++ (row 1 1 1 ∷ [])) [] (entry 0 10 0 2 8 9 ∷ []) (take 9 (tenRows 10) ++ (row 2 8 9 ∷ [])) []
     ∷ makes "rank 5 of ten rows drops the tenth" (row 20000 1 1 ∷ tenRows 9) [] (entry 0 2 0 15000 8 9 ∷ []) (row 20000 1 1 ∷ row 15000 8 9 ∷ tenRows 8) []
+    ∷ not "rank 10 of ten rows, below the tenth" (tenRows 10) [] (entry 0 10 0 2 8 9 ∷ []) 16
     ∷ makes "a price of -1, quantity and orders 0" [] [] (entry 1 1 0 4294967295 0 0 ∷ []) [] ((2147483647 ∷ 0 ∷ 0 ∷ []) ∷ [])
     ∷ []
 

@@ -7,6 +7,7 @@ pub mod Phases
 pub mod Statuses
 pub mod Sizes
 pub mod Entries
+pub mod Widths
 pub mod Tables
 pub mod Traps
 pub mod Refusals

@@ -1,15 +1,19 @@
--- Conversations that the exchange's rules allow, from bytes, and some that they do not; and what ledgers come of runs. Assumes nothing.
-use Prim.Native.Nat.{ℕ}
+-- Conversations that the exchange's rules allow, from bytes, and some that they do not; what ledgers and histories come of runs. Assumes nothing.
+use Prim.Native.Nat.{ℕ, _+_, _-_}
 use Prim.Native.String.{String}
 use mathlib.Core.Bool.{Bool, true, false, not, _&&_, Bool·beq}
 use mathlib.Core.List.{List, [], _∷_, _++_}
+use lib.ListN.{take, replicate}
 use lib.Dec.{eqb}
 use Rattle.ground.specs.Choice.{all}
-use Rattle.feed.specs.Events.{Event, Connect, Arrive, Cut}
+use Rattle.ladder.specs.Walk.{emptyBook}
+use Rattle.ladder.specs.Words.{wordsOf}
+use Rattle.feed.specs.Events.{State, Event, Connect, Arrive, Cut}
+use Rattle.feed.specs.declared.Link.{Link}
 use Rattle.feed.specs.declared.Link.the-variants.{Fresh, Resuming}
 use Rattle.promises.specs.Checks.{Check, sameWords}
-use Rattle.promises.specs.Build.{unit, heartbeat, message, sendKey, logon, logout, refresh, complete, entry, bookMessage}
-use Rattle.promises.specs.Runs.{start}
+use Rattle.promises.specs.Build.{unit, heartbeat, message, sendKey, logon, logout, refresh, complete, entry, bookMessage, row, block}
+use Rattle.promises.specs.Runs.{zeroed, start, History, endOf, tale, isGreen, green, replay, replayOn}
 use Rattle.promises.specs.Ledger.{Ledger, ledger}
 use Rattle.promises.specs.Demands.{handsBytes}
 use Rattle.promises.specs.GoodMorning.{Stage, Fills, Open, on, begins, talk, fairly}
@@ -93,4 +97,87 @@ ledgers =
     ∷ keeps "a number left out" ((Connect Fresh 5000 ∷ logsOn 0) ++ (Arrive (unit 4 7 (twoBids 700)) 6000 ∷ [])) (1 ∷ 2 ∷ 4 ∷ []) (1 ∷ 2 ∷ []) 0 [] true
     ∷ keeps "an entry that does not fit" ((Connect Fresh 5000 ∷ logsOn 0) ++ (Arrive (unit 3 7 (tenth 700)) 6000 ∷ [])) (1 ∷ 2 ∷ 3 ∷ []) (1 ∷ 2 ∷ []) 0 [] false
     ∷ keeps "too early" ((Connect Fresh 5000 ∷ logsOn 0) ++ (Arrive (unit 3 7 (twoBids 700)) 5999 ∷ [])) (1 ∷ 2 ∷ []) (1 ∷ 2 ∷ []) 0 [] true
+    ∷ []
+
+-- what a run with a limit of 1,000 and two slots comes to, by its history: when it is green and when not, its last accepted connect fresh or not, and
+-- the words that the replay of its book messages gives; all as the run itself has it
+unfoldable pub sameTimes : State → History → List (ℕ × Bool) → Bool
+sameTimes s h [] = true
+sameTimes s h (p ∷ ps) = Bool·beq (green h 1000 (p .0)) (p .1) && Bool·beq (isGreen s (p .0)) (p .1) && sameTimes s h ps
+
+unfoldable pub recounts : String → List Event → List (ℕ × Bool) → Bool → List ℕ → Check
+recounts name es times fresh words =
+    let h : History = tale 1000 128 es in
+    let s : State = endOf 1000 128 es in
+    record {
+      name = name;
+      holds = sameTimes s h times && Bool·beq (h .fresh) fresh && sameWords (replay (h .deeds) (zeroed 128) .books) words && sameWords (s .tables .books) words;
+    }
+
+-- green from a time to the limit after it, and not before nor after; never
+unfoldable pub greenFrom : ℕ → List (ℕ × Bool)
+greenFrom t = (t - 1, false) ∷ (t, true) ∷ (t + 1000, true) ∷ (t + 1001, false) ∷ []
+
+unfoldable pub dark : ℕ → List (ℕ × Bool)
+dark t = (t, false) ∷ (t + 1000, false) ∷ []
+
+-- a code's book after `twoBids` and `better`; after `better` alone; a free slot
+unfoldable pub threeBids : ℕ → List ℕ
+threeBids code = block code (row 9740 100 1 ∷ row 9730 4000 2 ∷ row 9720 100 1 ∷ []) []
+
+unfoldable pub oneBid : ℕ → List ℕ
+oneBid code = block code (row 9740 100 1 ∷ []) []
+
+unfoldable pub freeSlot : List ℕ
+freeSlot = replicate 64 0
+
+-- a connect at 5,000, the key, a logon at 6,000, and more
+unfoldable pub logonThen : ℕ → List Event → List Event
+logonThen status es = (Connect Fresh 5000 ∷ logsOn status) ++ es
+
+-- the key and a logon with 0, after a connect at 8,000
+unfoldable pub connectsAgain : Link → List Event
+connectsAgain link = Connect link 8000 ∷ Arrive (unit 1 0 sendKey) 8000 ∷ Arrive (unit 2 0 (logon 0)) 8000 ∷ []
+
+-- the book of a code, by the replay of its messages alone
+unfoldable pub ofCode : String → List Event → ℕ → List ℕ → Check
+ofCode name es c words = record { name = name; holds = sameWords (wordsOf c (replayOn c (tale 1000 128 es .deeds) emptyBook)) words }
+
+unfoldable pub twoCodes : List Event
+twoCodes = logonThen 0 (Arrive (unit 3 7 (twoBids 701)) 6000 ∷ Arrive (unit 4 8 (better 700)) 6000 ∷ Arrive (unit 5 9 (better 701)) 6000 ∷ [])
+
+unfoldable pub tales : List Check
+tales =
+    recounts "nothing" [] (dark 0) true (freeSlot ++ freeSlot)
+    ∷ recounts "a connect" (Connect Fresh 5000 ∷ []) (dark 5000) true (freeSlot ++ freeSlot)
+    ∷ recounts "a logon with 0" (logonThen 0 []) (greenFrom 6000) true (freeSlot ++ freeSlot)
+    ∷ recounts "a logon with 1" (logonThen 1 []) (dark 6000) true (freeSlot ++ freeSlot)
+    ∷ recounts "a logon with 5" (logonThen 5 []) (dark 6000) true (freeSlot ++ freeSlot)
+    ∷ recounts "a logon with 101" (logonThen 101 []) (dark 6000) true (freeSlot ++ freeSlot)
+    ∷ recounts "the day" (Connect Fresh 5000 ∷ day) (greenFrom 7500) true (threeBids 700 ++ freeSlot)
+    ∷ recounts "the day up to its heartbeat" (Connect Fresh 5000 ∷ take 4 day) (greenFrom 7000) true (block 700 (row 9730 4000 2 ∷ row 9720 100 1 ∷ []) [] ++ freeSlot)
+    ∷ recounts "the day with a refresh" (Connect Fresh 5000 ∷ refilled) (greenFrom 6500) true (threeBids 700 ++ freeSlot)
+    ∷ recounts "a message passed over is heard" (logonThen 0 (Arrive (unit 3 7 (message 40 [])) 6100 ∷ [])) (greenFrom 6100) true (freeSlot ++ freeSlot)
+    ∷ recounts "one that was seen too, and is not applied again" (logonThen 0 (Arrive (unit 3 7 (better 700)) 6000 ∷ Arrive (unit 4 7 (tenth 700)) 6100 ∷ []))
+    (greenFrom 6100) true (oneBid 700 ++ freeSlot)
+    ∷ recounts "two codes" twoCodes (greenFrom 6000) true (threeBids 701 ++ oneBid 700)
+    ∷ ofCode "the first code by its messages alone" twoCodes 701 (threeBids 701)
+    ∷ ofCode "the second" twoCodes 700 (oneBid 700)
+    ∷ []
+
+-- what ends it, and what begins anew
+unfoldable pub endings : List Check
+endings =
+    recounts "a number left out" (logonThen 0 (Arrive (unit 4 7 (better 700)) 6100 ∷ [])) (dark 6000) true (freeSlot ++ freeSlot)
+    ∷ recounts "an entry that does not fit" (logonThen 0 (Arrive (unit 3 7 (better 700)) 6000 ∷ Arrive (unit 4 8 (tenth 700)) 6100 ∷ [])) (dark 6000) true
+    (oneBid 700 ++ freeSlot)
+    ∷ recounts "a logout" (logonThen 0 (Arrive (unit 3 0 (logout 6)) 6100 ∷ [])) (dark 6100) true (freeSlot ++ freeSlot)
+    ∷ recounts "a logout, and what comes after it" (logonThen 0 (Arrive (unit 3 0 (logout 6)) 6100 ∷ Arrive heartbeat 6200 ∷ [])) (dark 6100) true (freeSlot ++ freeSlot)
+    ∷ recounts "half a unit and a clock that runs back" (logonThen 0 (Arrive [] 6100 ∷ Arrive heartbeat 5999 ∷ [])) (greenFrom 6000) true (freeSlot ++ freeSlot)
+    ∷ recounts "a connect after the day" (Connect Fresh 5000 ∷ (day ++ (Connect Resuming 8000 ∷ []))) (dark 8000) false (threeBids 700 ++ freeSlot)
+    ∷ recounts "resumed" (Connect Fresh 5000 ∷ (day ++ connectsAgain Resuming)) (greenFrom 8000) false (threeBids 700 ++ freeSlot)
+    ∷ recounts "a fresh connection" (Connect Fresh 5000 ∷ (day ++ connectsAgain Fresh)) (greenFrom 8000) true (freeSlot ++ freeSlot)
+    ∷ recounts "a refresh after the day" (Connect Fresh 5000 ∷ (day ++ (Connect Resuming 8000 ∷ Arrive (unit 1 0 sendKey) 8000 ∷ Arrive (unit 2 0 (logon 101)) 8000 ∷ [])))
+    (dark 8000) false (freeSlot ++ freeSlot)
+    ∷ recounts "resuming without its need" (logonThen 0 (Connect Resuming 6100 ∷ [])) (greenFrom 6000) true (freeSlot ++ freeSlot)
     ∷ []

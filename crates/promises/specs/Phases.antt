@@ -11,24 +11,24 @@ use Rattle.promises.specs.Checks.{Check}
 use Rattle.promises.specs.Build.{unit, heartbeat, message, sendKey, logon, logout, refresh, complete, feed, arrives}
 use Rattle.promises.specs.Answering.{oneCall, fed, lost, heard, held, both, fits}
 
--- the units that come, with SeqNum 5 and at the time 20, to a feed of next SeqNum 5, last internal number 7 and last heard 10
+-- the units that come, with SeqNum 5 and at the time 20 (the session's with an internal number, which nobody looks at), to a feed of next SeqNum 5, last internal number 7 and last heard 10
 unfoldable pub units : List (String × List ℕ)
 units =
     ("heartbeat", heartbeat)
-    ∷ ("1105", unit 5 0 sendKey)
-    ∷ ("1102 status 0", unit 5 0 (logon 0))
-    ∷ ("1102 status 101", unit 5 0 (logon 101))
-    ∷ ("1202", unit 5 0 (refresh 0))
-    ∷ ("203", unit 5 0 (complete 9))
+    ∷ ("1105", unit 5 8 sendKey)
+    ∷ ("1102 status 0", unit 5 8 (logon 0))
+    ∷ ("1102 status 101", unit 5 8 (logon 101))
+    ∷ ("1202", unit 5 8 (refresh 0))
+    ∷ ("203", unit 5 8 (complete 9))
     ∷ ("53, internal number 0", unit 5 0 fits)
     ∷ ("53, internal number above the last", unit 5 8 fits)
     ∷ ("53, internal number not above the last", unit 5 7 fits)
     ∷ ("another market message, internal number 0", unit 5 0 (message 40 []))
     ∷ ("another market message, internal number above the last", unit 5 8 (message 40 []))
     ∷ ("another market message, internal number not above the last", unit 5 7 (message 40 []))
-    ∷ ("1103", unit 5 0 (logout 6))
-    ∷ ("1101", unit 5 0 (message 1101 []))
-    ∷ ("1201", unit 5 0 (message 1201 []))
+    ∷ ("1103", unit 5 8 (logout 6))
+    ∷ ("1101", unit 5 8 (message 1101 []))
+    ∷ ("1201", unit 5 8 (message 1201 []))
     ∷ []
 
 -- what one of them must give: the answer, the feed and the table
@@ -122,11 +122,12 @@ inLost = paired Lost units (replicate 15 (left Lost))
 unfoldable pub inClosed : List Check
 inClosed = paired Closed units (replicate 15 (left Closed))
 
--- "Entering Live sets whole": from a refresh that was not whole
+-- "Entering Live sets whole": from a feed that was not whole
 unfoldable pub whole : List Check
 whole =
     oneCall "203 sets whole" (feed Refreshing 5 0 10 false true) held (arrives (unit 5 0 (complete 9)) 20 0) (heard Live 9) held
     ∷ oneCall "203 with number 0" (feed Refreshing 5 0 10 false true) held (arrives (unit 5 0 (complete 0)) 20 0) (heard Live 0) held
+    ∷ oneCall "a resumed logon sets whole" (feed WaitLogon 5 7 10 false false) held (arrives (unit 5 0 (logon 0)) 20 0) (feed Live 6 7 20 true false) held
     ∷ oneCall "a market message does not" (feed Refreshing 5 0 10 false true) held (arrives (unit 5 0 fits) 20 0) (feed Refreshing 6 0 20 false true) both
     ∷ oneCall "nor a heartbeat" (feed Refreshing 5 0 10 false true) held (arrives heartbeat 20 0) (feed Refreshing 5 0 20 false true) held
     ∷ []

@@ -9,7 +9,7 @@ use Rattle.feed.specs.declared.Phase.{Phase}
 use Rattle.feed.specs.declared.Phase.the-variants.{WaitKey, WaitLogon, Refreshing, Live, Lost}
 use Rattle.feed.specs.declared.Link.the-variants.{Fresh}
 use Rattle.promises.specs.Checks.{Check}
-use Rattle.promises.specs.Build.{bytes, unit, heartbeat, message, sendKey, entry, bookMessage, feed, arrives, gets}
+use Rattle.promises.specs.Build.{bytes, header, unit, heartbeat, message, sendKey, entry, bookMessage, feed, arrives, gets}
 use Rattle.promises.specs.Answering.{oneCall, fed, lost, heard, held, both, fits}
 
 -- bytes that arrive in Live: the answer and the bytes used, where the feed is heard or stays
@@ -25,7 +25,7 @@ withLength n s = bytes 2 n ++ drop 2 s
 
 -- a header with MsgLength 99 and SeqNum 5, and bytes behind it
 unfoldable pub headed : List ℕ → List ℕ
-headed s = bytes 2 99 ++ bytes 2 0 ++ bytes 4 5 ++ bytes 4 8 ++ bytes 8 0 ++ s
+headed s = header 99 5 8 ++ s
 
 unfoldable pub more : List Check
 more =
@@ -45,10 +45,11 @@ heartbeats =
     ∷ quiet "20 bytes" heartbeat
     ∷ quiet "and one byte behind it" (heartbeat ++ (255 ∷ []))
     ∷ quiet "and a unit behind it" (heartbeat ++ unit 5 8 fits)
-    ∷ quiet "any SeqNum and internal number" (withLength 20 (headed []))
+    ∷ quiet "all zero behind MsgLength" (bytes 2 20 ++ replicate 18 0)
     ∷ quiet "MsgLength 20 before a message" (withLength 20 (unit 5 8 fits))
     ∷ oneCall "MsgLength 19 is none" (fed Live) held (arrives (withLength 19 (unit 5 8 fits)) 20 0) (heard Live 8) both
     ∷ oneCall "MsgLength 0 is none" (fed Live) held (arrives (withLength 0 (unit 5 8 fits)) 20 0) (heard Live 8) both
+    ∷ oneCall "MsgLength 276 is none" (fed Live) held (arrives (withLength 276 (unit 5 8 fits)) 20 0) (heard Live 8) both
     ∷ oneCall "MsgLength 65,535 is none" (fed Live) held (arrives (withLength 65535 (unit 5 8 fits)) 20 0) (heard Live 8) both
     ∷ []
 
@@ -89,10 +90,26 @@ sizes =
     ∷ oneCall "1105 of 4 bytes" (fed WaitKey) held (arrives (unit 5 0 sendKey) 20 0) (heard WaitLogon 7) held
     ∷ oneCall "1105 of 532 bytes" (fed WaitKey) held (arrives (unit 5 0 (message 1105 (replicate 528 65))) 20 0) (heard WaitLogon 7) held
     ∷ oneCall "1101 of 4 bytes is 14" (fed WaitKey) held (arrives (unit 5 0 (message 1101 [])) 20 14) lost held
-    ∷ oneCall "type 0 of 4 bytes" (fed Live) held (arrives (unit 5 8 (message 0 [])) 20 2) (heard Live 8) held
-    ∷ oneCall "type 54 of 5 bytes" (fed Live) held (arrives (unit 5 8 (message 54 (1 ∷ []))) 20 2) (heard Live 8) held
-    ∷ oneCall "type 1104" (fed Live) held (arrives (unit 5 8 (message 1104 [])) 20 2) (heard Live 8) held
-    ∷ oneCall "type 65,535" (fed Live) held (arrives (unit 5 8 (message 65535 [])) 20 2) (heard Live 8) held
+    ∷ []
+
+-- "A market message is any type other than ..": the neighbours of those that are read, of 4 bytes and more, are passed over
+unfoldable pub passes : String → ℕ → List ℕ → Check
+passes name type rest = oneCall name (fed Live) held (arrives (unit 5 8 (message type rest)) 20 2) (heard Live 8) held
+
+unfoldable pub types : List Check
+types =
+    passes "type 0" 0 []
+    ∷ passes "type 52" 52 []
+    ∷ passes "type 54 of 5 bytes" 54 (1 ∷ [])
+    ∷ passes "type 202" 202 []
+    ∷ passes "type 204" 204 []
+    ∷ passes "type 309, 53 in its low byte" 309 []
+    ∷ passes "type 1100" 1100 []
+    ∷ passes "type 1104" 1104 []
+    ∷ passes "type 1106" 1106 []
+    ∷ passes "type 1200" 1200 []
+    ∷ passes "type 1203" 1203 []
+    ∷ passes "type 65,535" 65535 []
     ∷ []
 
 -- "After SeqNum 4,294,967,295 the next never comes"

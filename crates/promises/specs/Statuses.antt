@@ -2,9 +2,9 @@
 use Prim.Native.Nat.{ℕ, zero, suc}
 use Prim.Native.String.{String}
 use mathlib.Core.Bool.{true, false, cond}
-use mathlib.Core.List.{List, [], _∷_, _++_}
-use lib.ListN.{length, replicate}
-use lib.Dec.{eqb}
+use mathlib.Core.List.{List, [], _∷_}
+use lib.ListN.{replicate}
+use Rattle.ground.specs.Choice.{oneOf}
 use Rattle.feed.specs.Events.{Arrive}
 use Rattle.feed.specs.Steps.{outcome}
 use Rattle.feed.specs.declared.Phase.{Phase}
@@ -62,20 +62,23 @@ others =
     ∷ oneCall "1202, 1 is not listed" (fed Refreshing) held (arrives (unit 5 0 (refresh 1)) 20 15) spoilt held
     ∷ []
 
--- the numbers below n at which a call is answered so
-unfoldable pub answered : Phase → (ℕ → List ℕ) → ℕ → ℕ → List ℕ
-answered p m answer zero = []
-answered p m answer (suc n) =
-    let before : List ℕ = answered p m answer n in
-    cond (eqb (outcome (state (fed p) []) (Arrive (unit 5 0 (m n)) 20) .given .answer) answer) (before ++ (n ∷ [])) before
+-- what a message with each of the numbers below n is answered
+unfoldable pub answersBelow : Phase → (ℕ → List ℕ) → ℕ → List ℕ
+answersBelow p m zero = []
+answersBelow p m (suc n) = outcome (state (fed p) []) (Arrive (unit 5 0 (m n)) 20) .given .answer ∷ answersBelow p m n
 
--- of all 256 statuses, these are answered 0, and 15 all the others
+-- 0 for those listed of the numbers below n, and 15 for all the others
+unfoldable pub listedBelow : List ℕ → ℕ → List ℕ
+listedBelow ns zero = []
+listedBelow ns (suc n) = cond (oneOf n ns) 0 15 ∷ listedBelow ns n
+
+-- of all 256 statuses
+unfoldable pub all256 : String → Phase → (ℕ → List ℕ) → List ℕ → Check
+all256 name p m ns = record { name = name; holds = sameWords (answersBelow p m 256) (listedBelow ns 256) }
+
 unfoldable pub allStatuses : List Check
 allStatuses =
-    record { name = "1102: 0"; holds = sameWords (answered WaitLogon logon 0 256) (0 ∷ 1 ∷ 2 ∷ 3 ∷ 5 ∷ 6 ∷ 8 ∷ 100 ∷ 101 ∷ 104 ∷ 105 ∷ []) }
-    ∷ record { name = "1102: 15"; holds = eqb (length (answered WaitLogon logon 15 256)) 245 }
-    ∷ record { name = "1103: 0"; holds = sameWords (answered Live logout 0 256) (6 ∷ 102 ∷ 103 ∷ []) }
-    ∷ record { name = "1103: 15"; holds = eqb (length (answered Live logout 15 256)) 253 }
-    ∷ record { name = "1202: 0"; holds = sameWords (answered Refreshing refresh 0 256) (0 ∷ []) }
-    ∷ record { name = "1202: 15"; holds = eqb (length (answered Refreshing refresh 15 256)) 255 }
+    all256 "1102" WaitLogon logon (0 ∷ 1 ∷ 2 ∷ 3 ∷ 5 ∷ 6 ∷ 8 ∷ 100 ∷ 101 ∷ 104 ∷ 105 ∷ [])
+    ∷ all256 "1103" Live logout (6 ∷ 102 ∷ 103 ∷ [])
+    ∷ all256 "1202" Refreshing refresh (0 ∷ [])
     ∷ []

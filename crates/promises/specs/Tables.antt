@@ -1,5 +1,5 @@
 -- Tables of every kind, sound and unsound books, and rows read out of them (document 01, "The book table", "Reading a row"). Assumes nothing.
-use Prim.Native.Nat.{ℕ, _+_, _*_}
+use Prim.Native.Nat.{ℕ, zero, suc, _+_, _*_}
 use Prim.Native.String.{String}
 use mathlib.Core.List.{List, [], _∷_, _++_}
 use lib.ListN.{take, replicate, set}
@@ -11,6 +11,7 @@ use Rattle.feed.specs.declared.Phase.the-variants.{WaitLogon, Live}
 use Rattle.promises.specs.Checks.{Check, reads}
 use Rattle.promises.specs.Build.{unit, logon, entry, bookMessage, row, block, arrives}
 use Rattle.promises.specs.Answering.{oneCall, fed, spoilt, heard, held, both, fits}
+use Rattle.promises.specs.Desk.{tenRows}
 
 -- a message for code 700 in Live on a table: the answer, and the table after it
 unfoldable pub on : String → List ℕ → List ℕ → Check
@@ -78,15 +79,26 @@ slots =
 unfoldable pub three : List ℕ
 three = block 700 (row 30 1 1 ∷ row 20 1 1 ∷ row 10 1 1 ∷ []) (row 5 1 1 ∷ row 6 1 1 ∷ [])
 
+-- ten offers from 10.001 up
+unfoldable pub tenOffers : ℕ → List (List ℕ)
+tenOffers zero = []
+tenOffers (suc n) = tenOffers n ++ (row (10001 + n) 500 1 ∷ [])
+
 unfoldable pub sounds : List Check
 sounds =
     refused "bid count 11" (set three 1 11) 18
     ∷ refused "offer count 11" (set three 2 11) 18
+    ∷ refused "bid count 11 over ten good rows" (set (block 700 (tenRows 10) []) 1 11) 18
+    ∷ refused "offer count 11 over ten good rows" (set (block 700 [] (tenOffers 10)) 2 11) 18
     ∷ refused "a count of 18,446,744,073,709,551,615" (set three 1 18446744073709551615) 18
     ∷ refused "word 3" (set three 3 1) 18
     ∷ refused "a word behind the bids" (set three 13 1) 18
+    ∷ refused "a quantity word behind the bids" (set three 14 1) 18
+    ∷ refused "an orders word behind the bids" (set three 15 1) 18
     ∷ refused "the last word of the bids" (set three 33 1) 18
     ∷ refused "a word behind the offers" (set three 40 1) 18
+    ∷ refused "a quantity word behind the offers" (set three 41 1) 18
+    ∷ refused "an orders word behind the offers" (set three 42 1) 18
     ∷ refused "the last word of the offers" (set three 63 1) 18
     ∷ refused "a bid too few counted" (set three 1 2) 18
     ∷ refused "a price word of 4,294,967,296" (set three 4 4294967296) 18

@@ -1,14 +1,14 @@
 -- Every trap of "Traps we have seen", examples 9 and 10, and the badge, over whole runs (document 01). Assumes nothing.
-use Prim.Native.Nat.{ℕ}
+use Prim.Native.Nat.{ℕ, _*_}
 use Prim.Native.String.{String}
 use mathlib.Core.Bool.{Bool, true, false, _&&_}
 use mathlib.Core.List.{List, [], _∷_, _++_}
-use lib.ListN.{take, replicate}
+use lib.ListN.{length, take, replicate}
 use lib.IntN.{pos, negsuc}
 use lib.Dec.{eqb}
 use Rattle.feed.specs.Feeds.{plainBadge}
 use Rattle.feed.specs.Events.{Connect, Arrive}
-use Rattle.feed.specs.Program.{Line, Printed, printed}
+use Rattle.feed.specs.Program.{Line, Printed, programRun, printed}
 use Rattle.feed.specs.declared.Phase.the-variants.{WaitLogon, Refreshing, Live, Lost, Closed}
 use Rattle.feed.specs.declared.Link.the-variants.{Fresh, Resuming}
 use Rattle.promises.specs.Checks.{Check, sameNumber}
@@ -112,6 +112,17 @@ programs2 =
     ∷ line10
     ∷ [])
     3 6
+    ∷ []
+
+-- "a unit too long for the program's buffer of 65,536 bytes ends the run as 3": a key with n bytes behind its type; and "128 slots"
+unfoldable pub longKey : ℕ → List ℕ
+longKey n = unit 1 0 (message 1105 (replicate n 65))
+
+unfoldable pub rooms : List Check
+rooms =
+    record { name = "a unit of 65,536 bytes is accepted"; holds = eqb (programRun (longKey 65512) .units) 1 }
+    ∷ record { name = "a unit of 65,537 bytes is not"; holds = eqb (programRun (longKey 65513) .units) 0 }
+    ∷ record { name = "128 slots of 64 words"; holds = eqb (length (programRun example10 .state .tables .books)) (128 * 64) }
     ∷ []
 
 -- the C call: phase number, last heard, limit, time; and the badge's number
