@@ -24,14 +24,14 @@ use Rattle.feed.specs.declared.Datum.the-variants.{Book, Other}
 use Rattle.feed.specs.declared.Status.{Status}
 use Rattle.feed.specs.declared.Status.the-variants.{Opens, Refills, Stays, Closes, Unlisted}
 use Rattle.promises.specs.Leaves as L
-use Rattle.promises.specs.Leaves.{clearsBy, clears, clearing, writing}
+use Rattle.promises.specs.Leaves.{statusWipes, wipes, clearing, writing}
 use Rattle.promises.proofs.Refused.{proper, reply-proper}
 use Rattle.promises.proofs.Steps.{two-passed}
 use Rattle.promises.proofs.Demands.{zero-take}
 
 -- the tables after a message that is taken: as they were, cleared, or after a book message
-after-status : (st : Status) (s : State) → loggedOn st s .tables ≡ cond (clearsBy (s .feed .fresh) st) (clearedTables (s .tables)) (s .tables)
-unfolding loggedOn clearsBy
+after-status : (st : Status) (s : State) → loggedOn st s .tables ≡ cond (statusWipes (s .feed .fresh) st) (clearedTables (s .tables)) (s .tables)
+unfolding loggedOn statusWipes
 after-status Opens s = go (s .feed .fresh)
   where
     go : (b : Bool) → cond b (cleared s) s .tables ≡ cond b (clearedTables (s .tables)) (s .tables)
@@ -43,8 +43,8 @@ after-status Closes s = refl
 after-status Unlisted s = refl
 
 after-kind : (k : Kind) (time : ℕ) (m : List ℕ) (s : State) → does k time m s .tables
-    ≡ cond (onMarket book k) (tablesAfter Book time m (s .tables)) (cond (clears (s .feed .fresh) k m) (clearedTables (s .tables)) (s .tables))
-unfolding does onMarket book clears tablesAfter
+    ≡ cond (onMarket book k) (tablesAfter Book time m (s .tables)) (cond (wipes (s .feed .fresh) k m) (clearedTables (s .tables)) (s .tables))
+unfolding does onMarket book wipes tablesAfter
 after-kind (Session SendKey) time m s = refl
 after-kind (Session Logon) time m s = after-status (statusOf (logonStatus m)) s
 after-kind (Session Logout) time m s = refl
@@ -55,8 +55,8 @@ after-kind (Market Book) time m s = refl
 after-kind (Market Other) time m s = refl
 
 -- what is passed over is neither
-passed-leaves : (k : Kind) (fresh : Bool) (m : List ℕ) → passed k ≡ true → (onMarket book k || clears fresh k m) ≡ false
-unfolding passed onMarket book clears
+passed-leaves : (k : Kind) (fresh : Bool) (m : List ℕ) → passed k ≡ true → (onMarket book k || wipes fresh k m) ≡ false
+unfolding passed onMarket book wipes
 passed-leaves (Session s) fresh m e = absurd (true≢false (sym e))
 passed-leaves (Market Book) fresh m e = absurd (true≢false (sym e))
 passed-leaves (Market Other) fresh m e = refl
@@ -76,12 +76,12 @@ neither-second false b f o = true≢false (sym f ∙ o)
 -- one property of the tables, shown for each way
 module _ (P : Tables → Type 0) (s : State) (time : ℕ) where
   by-message : (k : Kind) (m : List ℕ) → (onMarket book k ≡ true → P (tablesAfter Book time m (s .tables)))
-      → (clears (s .feed .fresh) k m ≡ true → P (clearedTables (s .tables))) → P (s .tables) → P (does k time m s .tables)
-  by-message k m b c p = rw (after-kind k time m s) (split P (onMarket book k) _ _ b (λ e. split P (clears (s .feed .fresh) k m) _ _ c (λ f. p)))
+      → (wipes (s .feed .fresh) k m ≡ true → P (clearedTables (s .tables))) → P (s .tables) → P (does k time m s .tables)
+  by-message k m b c p = rw (after-kind k time m s) (split P (onMarket book k) _ _ b (λ e. split P (wipes (s .feed .fresh) k m) _ _ c (λ f. p)))
 
   by-answer : (x : News) (a : Answer) → answerTo (s .feed) (s .tables) time x ≡ a → T (proper a)
       → ((seq internal : ℕ) (m : List ℕ) → x ≡ Message seq internal m → a ≡ Take 0 → onMarket book (kind m) ≡ true → P (tablesAfter Book time m (s .tables)))
-      → ((seq internal : ℕ) (m : List ℕ) → x ≡ Message seq internal m → a ≡ Take 0 → clears (s .feed .fresh) (kind m) m ≡ true → P (clearedTables (s .tables)))
+      → ((seq internal : ℕ) (m : List ℕ) → x ≡ Message seq internal m → a ≡ Take 0 → wipes (s .feed .fresh) (kind m) m ≡ true → P (clearedTables (s .tables)))
       → P (s .tables) → P (act a time x s .tables)
   unfolding act taken proper oneOf onMessage
   by-answer x (Keep k) e q b c p = p
@@ -106,7 +106,7 @@ zero-is a e = ap number e ∙ (unfold number in refl)
 -- the same of a call
 by-call : (P : Tables → Type 0) (s : State) (e : Event)
     → ((seq internal : ℕ) (m : List ℕ) → news e ≡ Message seq internal m → outcome s e .given .answer ≡ 0 → onMarket book (kind m) ≡ true → P (tablesAfter Book (timeOf e) m (s .tables)))
-    → ((seq internal : ℕ) (m : List ℕ) → news e ≡ Message seq internal m → outcome s e .given .answer ≡ 0 → clears (s .feed .fresh) (kind m) m ≡ true → P (clearedTables (s .tables)))
+    → ((seq internal : ℕ) (m : List ℕ) → news e ≡ Message seq internal m → outcome s e .given .answer ≡ 0 → wipes (s .feed .fresh) (kind m) m ≡ true → P (clearedTables (s .tables)))
     → P (s .tables) → P (outcome s e .tables)
 unfolding outcome handed
 by-call P s e b c p =
@@ -117,12 +117,12 @@ pub leaves : L.Leaves
 unfolding writing onMessage
 leaves s e h =
     by-call (λ (x : Tables). x ≡ s .tables) s e
-    (λ seq internal m x z f. absurd (neither _ _ f (subst (λ (n : News). onMessage (λ seq internal m. onMarket book (kind m) || clears (s .feed .fresh) (kind m) m) n ≡ false) x (h z))))
-    (λ seq internal m x z f. absurd (neither-second (onMarket book (kind m)) _ f (subst (λ (n : News). onMessage (λ seq internal m. onMarket book (kind m) || clears (s .feed .fresh) (kind m) m) n ≡ false) x (h z))))
+    (λ seq internal m x z f. absurd (neither _ _ f (subst (λ (n : News). onMessage (λ seq internal m. onMarket book (kind m) || wipes (s .feed .fresh) (kind m) m) n ≡ false) x (h z))))
+    (λ seq internal m x z f. absurd (neither-second (onMarket book (kind m)) _ f (subst (λ (n : News). onMessage (λ seq internal m. onMarket book (kind m) || wipes (s .feed .fresh) (kind m) m) n ≡ false) x (h z))))
     refl
 
 -- a clearing is one
-clear-news : (x : News) (fresh : Bool) → onMessage (λ seq internal m. clears fresh (kind m) m) x ≡ true → (time : ℕ) (s : State) → s .feed .fresh ≡ fresh
+clear-news : (x : News) (fresh : Bool) → onMessage (λ seq internal m. wipes fresh (kind m) m) x ≡ true → (time : ℕ) (s : State) → s .feed .fresh ≡ fresh
     → taken time x s .tables ≡ clearedTables (s .tables)
 unfolding onMessage taken
 clear-news (Linked link) fresh e time s f = absurd (true≢false (sym e))
@@ -131,9 +131,9 @@ clear-news Heartbeat fresh e time s f = absurd (true≢false (sym e))
 clear-news (Message seq internal m) fresh e time s f =
     after-kind (kind m) time m s ∙ rw (not-book (kind m) fresh m e, f, e)
   where
-    not-book : (k : Kind) (fresh : Bool) (m : List ℕ) → clears fresh k m ≡ true → onMarket book k ≡ false
+    not-book : (k : Kind) (fresh : Bool) (m : List ℕ) → wipes fresh k m ≡ true → onMarket book k ≡ false
     not-book (Session s) fresh m e = unfold onMarket in refl
-    not-book (Market d) fresh m e = absurd (true≢false (sym (unfold clears in e)))
+    not-book (Market d) fresh m e = absurd (true≢false (sym (unfold wipes in e)))
 
 clear-call : (s : State) (e : Event) → outcome s e .given .answer ≡ 0 → clearing s e ≡ true → outcome s e .tables ≡ clearedTables (s .tables)
 unfolding outcome handed clearing act
@@ -149,5 +149,5 @@ unfolding clearing onMessage tablesAfter
 keepsSlots s e h j nz =
     by-call (λ (x : Tables). codeOf (block j (x .books)) ≡ codeOf (block j (s .tables .books))) s e
     (λ seq internal m x z f. books-codes (timeOf e) m (s .tables .books) j nz)
-    (λ seq internal m x z f. absurd (true≢false (sym f ∙ subst (λ (n : News). onMessage (λ seq internal m. clears (s .feed .fresh) (kind m) m) n ≡ false) x (h z))))
+    (λ seq internal m x z f. absurd (true≢false (sym f ∙ subst (λ (n : News). onMessage (λ seq internal m. wipes (s .feed .fresh) (kind m) m) n ≡ false) x (h z))))
     refl

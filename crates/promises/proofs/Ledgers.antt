@@ -29,7 +29,7 @@ use Rattle.feed.specs.declared.Feed.{Feed}
 use Rattle.feed.proofs.Laws.{numbered}
 use Rattle.promises.specs.Refusals.{keeping, losing, spoiling}
 use Rattle.promises.specs.Runs.{start, after, run, trace, History, noHistory, note, recall, history}
-use Rattle.promises.specs.Ledger.{Ledger, noLedger, sees, meets, clears, enters, spoils, takes, isLive, enterStatus, enterTaken, enterAccepted, enterCame, enter, keep, ledger, upTo, rising, lastOf}
+use Rattle.promises.specs.Ledger.{Ledger, noLedger, sees, meets, emptied, enters, spoils, takes, isLive, enterStatus, enterTaken, enterAccepted, enterCame, enter, keep, ledger, upTo, rising, lastOf}
 use Rattle.promises.proofs.Refused.{proper, reply-proper}
 use Rattle.promises.proofs.Steps.{Fine, fine, Any, any-news, on-step}
 use Rattle.promises.proofs.Badges as B
@@ -90,7 +90,7 @@ live-flags Lost up owed over g = sym g
 live-flags Closed up owed over g = sym g
 
 -- a logon
-opens : (s : State) (l : Ledger) (b : Bool) → Numbered (s .feed) l → Numbered (enterLive (cond b (cleared s) s .feed)) (enters (cond b (clears l) l))
+opens : (s : State) (l : Ledger) (b : Bool) → Numbered (s .feed) l → Numbered (enterLive (cond b (cleared s) s .feed)) (enters (cond b (emptied l) l))
 unfolding rising lastOf
 opens s l true i = record { last = refl; rises = tt; whole = refl }
 opens s l false i = record { last = i .last; rises = i .rises; whole = refl }
@@ -99,7 +99,7 @@ after-status : (st : Status) (s : State) (h : History) (l : Ledger) → s .feed 
     → Numbered (loggedOn st s .feed) (enterStatus st h l)
 unfolding loggedOn enterStatus rising lastOf
 after-status Opens s h l e i =
-    subst (λ (b : Bool). Numbered (enterLive (cond (s .feed .fresh) (cleared s) s .feed)) (enters (cond b (clears l) l))) e (opens s l (s .feed .fresh) i)
+    subst (λ (b : Bool). Numbered (enterLive (cond (s .feed .fresh) (cleared s) s .feed)) (enters (cond b (emptied l) l))) e (opens s l (s .feed .fresh) i)
 after-status Refills s h l e i = record { last = refl; rises = tt; whole = refl }
 after-status Stays s h l e i = i
 after-status Closes s h l e i = record { last = i .last; rises = i .rises; whole = i .whole }
@@ -194,7 +194,7 @@ SameSeqs l k = (l .came ≡ k .came) × (l .met ≡ k .met)
 
 status-seqs : (st : Status) (h : History) (l : Ledger) → SameSeqs (enterStatus st h l) l
 unfolding enterStatus
-status-seqs Opens h l = split (λ (x : Ledger). SameSeqs (enters x) l) (h .fresh) (clears l) l (λ e. (refl, refl)) (λ e. (refl, refl))
+status-seqs Opens h l = split (λ (x : Ledger). SameSeqs (enters x) l) (h .fresh) (emptied l) l (λ e. (refl, refl)) (λ e. (refl, refl))
 status-seqs Refills h l = (refl, refl)
 status-seqs Stays h l = (refl, refl)
 status-seqs Closes h l = (refl, refl)

@@ -18,28 +18,28 @@ use Rattle.feed.specs.declared.Status.{Status}
 use Rattle.feed.specs.declared.Status.the-variants.{Opens, Refills, Stays, Closes, Unlisted}
 
 -- a logon that clears: 101, and 0 or 2 after a fresh connect
-unfoldable pub clearsBy : Bool → Status → Bool
-clearsBy fresh Opens = fresh
-clearsBy fresh Refills = true
-clearsBy fresh Stays = false
-clearsBy fresh Closes = false
-clearsBy fresh Unlisted = false
+unfoldable pub statusWipes : Bool → Status → Bool
+statusWipes fresh Opens = fresh
+statusWipes fresh Refills = true
+statusWipes fresh Stays = false
+statusWipes fresh Closes = false
+statusWipes fresh Unlisted = false
 
-unfoldable pub clears : Bool → Kind → List ℕ → Bool
-clears fresh (Session SendKey) m = false
-clears fresh (Session Logon) m = clearsBy fresh (statusOf (logonStatus m))
-clears fresh (Session Logout) m = false
-clears fresh (Session Refresh) m = false
-clears fresh (Session Complete) m = false
-clears fresh (Session Request) m = false
-clears fresh (Market d) m = false
+unfoldable pub wipes : Bool → Kind → List ℕ → Bool
+wipes fresh (Session SendKey) m = false
+wipes fresh (Session Logon) m = statusWipes fresh (statusOf (logonStatus m))
+wipes fresh (Session Logout) m = false
+wipes fresh (Session Refresh) m = false
+wipes fresh (Session Complete) m = false
+wipes fresh (Session Request) m = false
+wipes fresh (Market d) m = false
 
 -- an event that brings such a logon; or that or a book message
 unfoldable pub clearing : State → Event → Bool
-clearing s e = onMessage (λ seq internal m. clears (s .feed .fresh) (kind m) m) (news e)
+clearing s e = onMessage (λ seq internal m. wipes (s .feed .fresh) (kind m) m) (news e)
 
 unfoldable pub writing : State → Event → Bool
-writing s e = onMessage (λ seq internal m. onMarket book (kind m) || clears (s .feed .fresh) (kind m) m) (news e)
+writing s e = onMessage (λ seq internal m. onMarket book (kind m) || wipes (s .feed .fresh) (kind m) m) (news e)
 
 -- Seen, Passed, heartbeats, session messages that do not clear, connects, and whatever is refused, leave every word: only what is answered 0 and is
 -- a book message or clears can change one

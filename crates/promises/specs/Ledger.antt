@@ -40,8 +40,8 @@ abbrev pub meets : ℕ → Ledger → Ledger
 meets seq l = record { came = l .came; met = l .met ++ (seq ∷ []); base = l .base; numbers = l .numbers; whole = l .whole }
 
 -- a clearing; Live entered; an arrival answered 15 to 18
-abbrev pub clears : Ledger → Ledger
-clears l = record { came = l .came; met = l .met; base = 0; numbers = []; whole = false }
+abbrev pub emptied : Ledger → Ledger
+emptied l = record { came = l .came; met = l .met; base = 0; numbers = []; whole = false }
 
 abbrev pub enters : Ledger → Ledger
 enters l = record { came = l .came; met = l .met; base = l .base; numbers = l .numbers; whole = true }
@@ -62,8 +62,8 @@ isLive h = h .up && not (h .owed) && not (h .over)
 
 -- "0 or 2: Live, and after a fresh connect the table is cleared first. 101: cleared"
 unfoldable pub enterStatus : Status → History → Ledger → Ledger
-enterStatus Opens h l = enters (cond (h .fresh) (clears l) l)
-enterStatus Refills h l = clears l
+enterStatus Opens h l = enters (cond (h .fresh) (emptied l) l)
+enterStatus Refills h l = emptied l
 enterStatus Stays h l = l
 enterStatus Closes h l = l
 enterStatus Unlisted h l = l
