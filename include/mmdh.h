@@ -60,6 +60,20 @@ enum {
     MMDH_FILLING = 2
 };
 
+/* Why a badge is what it is: green exactly with 0, filling exactly with 2, 3 and 4, stale otherwise. */
+enum {
+    MMDH_WHY_LIVE = 0,
+    MMDH_WHY_NEW = 1,     /* never connected */
+    MMDH_WHY_KEY = 2,     /* waiting for the key */
+    MMDH_WHY_LOGON = 3,   /* waiting for the logon response */
+    MMDH_WHY_REFRESH = 4, /* the snapshot is coming in */
+    MMDH_WHY_SILENT = 5,  /* nothing heard for longer than the limit */
+    MMDH_WHY_EARLY = 6,   /* the time is before the last heard time */
+    MMDH_WHY_LOST = 7,    /* also an unknown phase */
+    MMDH_WHY_CLOSED = 8,
+    MMDH_WHY_LIMIT = 9    /* the limit is outside 1 to 600,000 */
+};
+
 /* A feed. whole and fresh: 0 is no, anything else yes. */
 typedef struct {
     uint64_t phase;
@@ -105,6 +119,10 @@ MmdhRow mmdh_read_row(const uint64_t *table, size_t table_len, uint64_t code, ui
 
 /* The badge at a time, of a feed's phase, last heard time and limit: a limit outside 1 to 600,000 is stale. */
 uint64_t mmdh_badge(uint64_t phase, uint64_t heard, uint64_t limit, uint64_t time);
+
+/* Why the badge is what it is at that time, of the same numbers: by the phase in Idle, Lost and Closed, then by the limit,
+   then by the clock, else by the phase. */
+uint64_t mmdh_why(uint64_t phase, uint64_t heard, uint64_t limit, uint64_t time);
 
 #ifdef __cplusplus
 }

@@ -1,7 +1,7 @@
 //! One feed by its single calls, and the badge that it has earned.
 
 use crate::raw::{self, MmdhFeed, MmdhGiven};
-use crate::{later, Answer, Books, Refused, Why};
+use crate::{Answer, Books, Refused, Why};
 use std::fmt;
 
 /// Where a feed stands.
@@ -175,7 +175,7 @@ impl Feed {
 
     /// Why the badge is what it is at a time.
     pub fn why(&self, time: u64) -> Why {
-        Why::given(later::why(self.plain.phase, self.plain.heard, self.plain.limit, time))
+        Why::given(raw::why(self.plain.phase, self.plain.heard, self.plain.limit, time))
     }
 
     /// Where the feed stands.

@@ -66,6 +66,7 @@ extern "C" {
     ) -> MmdhGiven;
     fn mmdh_read_row(table: *const u64, words: usize, code: u64, side: u64, rank: u64) -> MmdhRow;
     fn mmdh_badge(phase: u64, heard: u64, limit: u64, time: u64) -> u64;
+    fn mmdh_why(phase: u64, heard: u64, limit: u64, time: u64) -> u64;
 }
 
 /// A new feed with a silence limit.
@@ -110,4 +111,11 @@ pub fn read_row(table: &[u64], code: u64, side: u64, rank: u64) -> MmdhRow {
 pub fn badge(phase: u64, heard: u64, limit: u64, time: u64) -> u64 {
     // SAFETY: numbers by value only, as above.
     unsafe { mmdh_badge(phase, heard, limit, time) }
+}
+
+/// Why the badge is what it is, 0 to 9: live, new, key, logon, refresh, silent, early, lost, closed, limit.
+#[inline]
+pub fn why(phase: u64, heard: u64, limit: u64, time: u64) -> u64 {
+    // SAFETY: numbers by value only, as above.
+    unsafe { mmdh_why(phase, heard, limit, time) }
 }

@@ -1,4 +1,4 @@
-//! The badge call over a grid of phases, limits and times, and at random.
+//! The badge and its reason over a grid of phases, limits and times, and at random.
 
 use crate::pair::Pair;
 use crate::scene;
@@ -9,12 +9,12 @@ const LIMITS: [u64; 9] = [0, 1, 2, 1_000, 599_999, 600_000, 600_001, 1 << 32, u6
 const HEARD: [u64; 8] = [0, 1, 5_000, (1 << 32) - 1, 1 << 32, u64::MAX - 1_000, u64::MAX - 1, u64::MAX];
 
 pub fn check(pair: &mut Pair, dice: &mut Dice, rounds: u64) {
-    pair.tally.part("badges, library against twin");
+    pair.tally.part("badges and their reasons, library against twin and one against the other");
     for phase in PHASES {
         for limit in LIMITS {
             for heard in HEARD {
                 for time in times(heard, limit) {
-                    pair.badge(phase, heard, limit, time);
+                    pair.badge_and_why(phase, heard, limit, time);
                 }
             }
         }
@@ -22,7 +22,7 @@ pub fn check(pair: &mut Pair, dice: &mut Dice, rounds: u64) {
     for _ in 0..rounds {
         let (heard, limit) = (scene::edge(dice), dice.of(&LIMITS));
         let time = heard.wrapping_add(dice.of(&[limit, limit / 2, 0])).wrapping_add(dice.below(5)).wrapping_sub(2);
-        pair.badge(dice.of(&PHASES), heard, limit, time);
+        pair.badge_and_why(dice.of(&PHASES), heard, limit, time);
     }
 }
 

@@ -126,6 +126,18 @@ impl Pair {
         ours
     }
 
+    /// The badge with its reason, both against the twin's, and the one against the other: green exactly if the reason is
+    /// 0, filling exactly if it is 2, 3 or 4.
+    pub fn badge_and_why(&mut self, phase: u64, heard: u64, limit: u64, time: u64) {
+        let badge = self.badge(phase, heard, limit, time);
+        let why = raw::why(phase, heard, limit, time);
+        let input = || format!("why phase {} heard {} limit {} time {}", phase, heard, limit, time);
+        self.tally.met(Call::Why, why);
+        self.tally.same(&why, &twin::why(phase, heard, limit, time), input);
+        let (green, filling) = (why == 0, (2..=4).contains(&why));
+        self.tally.same(&(badge == 1, badge == 2), &(green, filling), || format!("badge {} and {}", badge, input()));
+    }
+
     /// The library's table after the last arrival.
     pub fn after(&self) -> &[u64] {
         &self.ours

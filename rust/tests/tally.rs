@@ -3,7 +3,7 @@
 use std::collections::BTreeMap;
 use std::fmt::Debug;
 
-/// The calls, and the answers that each must have given by the end.
+/// The calls, and the answers or reasons that each must have given by the end.
 #[derive(Clone, Copy, PartialEq, Eq, PartialOrd, Ord, Debug)]
 pub enum Call {
     New,
@@ -11,14 +11,16 @@ pub enum Call {
     Arrive,
     ArriveCut,
     ReadRow,
+    Why,
 }
 
-const WANTED: [(Call, &[u64]); 5] = [
+const WANTED: [(Call, &[u64]); 6] = [
     (Call::New, &[0, 19]),
     (Call::Connect, &[0, 10, 20]),
     (Call::Arrive, &[0, 1, 2, 3, 10, 11, 12, 13, 14, 15, 16, 17, 18]),
     (Call::ArriveCut, &[0, 1, 2, 10, 11, 12, 13, 14, 15, 16, 17, 18]),
     (Call::ReadRow, &[0, 4, 15, 18]),
+    (Call::Why, &[0, 1, 2, 3, 4, 5, 6, 7, 8, 9]),
 ];
 
 /// Differences printed in full before the rest are only counted.
@@ -66,7 +68,7 @@ impl Tally {
 
     /// Prints the counts; true where all passed.
     pub fn finish(mut self) -> bool {
-        self.part("every answer of document 01 met, call by call");
+        self.part("every answer and every reason met, call by call");
         for (call, answers) in WANTED {
             for &answer in answers {
                 let met = self.answers.contains_key(&(call, answer));

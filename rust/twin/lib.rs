@@ -189,6 +189,28 @@ pub fn badge(phase: u64, heard: u64, limit: u64, time: u64) -> u64 {
     }
 }
 
+/// Why the badge is what it is: first the phases that are stale by themselves, then the limit, then the clock, else the
+/// phase. 0 live, 1 new, 2 key, 3 logon, 4 refresh, 5 silent, 6 early, 7 lost, 8 closed, 9 limit.
+pub fn why(phase: u64, heard: u64, limit: u64, time: u64) -> u64 {
+    let waits = match Phase::of(phase) {
+        Phase::Idle => return 1,
+        Phase::Lost => return 7,
+        Phase::Closed => return 8,
+        Phase::WaitKey => 2,
+        Phase::WaitLogon => 3,
+        Phase::Refreshing => 4,
+        Phase::Live => 0,
+    };
+    if !limit_listed(limit) {
+        return 9;
+    }
+    match time.checked_sub(heard) {
+        None => 6,
+        Some(quiet) if quiet > limit => 5,
+        Some(_) => waits,
+    }
+}
+
 /// Reads a row by code, side (0 bid, 1 offer) and rank (1 to 10).
 pub fn read_row(table: &[u64], code: u64, side: u64, rank: u64) -> Read {
     let none = |answer| Read { answer, price: 0, quantity: 0, orders: 0 };

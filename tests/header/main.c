@@ -1,4 +1,4 @@
-/* include/mmdh.h as a C program meets it: example 10's three units through the archive, the row they leave, the badge. */
+/* include/mmdh.h as a C program meets it: example 10's three units through the archive, the row they leave, the badge and every reason. */
 #include <stdio.h>
 #include <string.h>
 
@@ -12,6 +12,32 @@ static void expect(const char *what, int holds) {
     } else {
         failed++;
         printf("wrong: %s\n", what);
+    }
+}
+
+/* One case for each reason, and the badge that goes with it. */
+static void reasons(void) {
+    static const struct {
+        const char *what;
+        uint64_t phase, heard, limit, time, why, badge;
+    } cases[] = {
+        {"live to the limit", MMDH_LIVE, 5, 1000, 1005, MMDH_WHY_LIVE, MMDH_GREEN},
+        {"never connected, whatever the limit", MMDH_IDLE, 5, 0, 4, MMDH_WHY_NEW, MMDH_STALE},
+        {"waiting for the key", MMDH_WAIT_KEY, 5, 1000, 5, MMDH_WHY_KEY, MMDH_FILLING},
+        {"waiting for the logon", MMDH_WAIT_LOGON, 5, 1, 6, MMDH_WHY_LOGON, MMDH_FILLING},
+        {"refreshing", MMDH_REFRESHING, 5, 600000, 5, MMDH_WHY_REFRESH, MMDH_FILLING},
+        {"silent beyond the limit", MMDH_LIVE, 5, 1000, 1006, MMDH_WHY_SILENT, MMDH_STALE},
+        {"the clock before the last heard time", MMDH_LIVE, 5, 1000, 4, MMDH_WHY_EARLY, MMDH_STALE},
+        {"lost", MMDH_LOST, 5, 1000, 5, MMDH_WHY_LOST, MMDH_STALE},
+        {"an unknown phase is lost", UINT64_MAX, 5, 0, 4, MMDH_WHY_LOST, MMDH_STALE},
+        {"closed", MMDH_CLOSED, 5, 1000, 5, MMDH_WHY_CLOSED, MMDH_STALE},
+        {"a limit of 0, before the clock", MMDH_LIVE, 5, 0, 4, MMDH_WHY_LIMIT, MMDH_STALE},
+        {"a limit of 600,001", MMDH_WAIT_KEY, 5, 600001, 5, MMDH_WHY_LIMIT, MMDH_STALE},
+    };
+    for (size_t k = 0; k < sizeof cases / sizeof cases[0]; k++) {
+        uint64_t why = mmdh_why(cases[k].phase, cases[k].heard, cases[k].limit, cases[k].time);
+        uint64_t badge = mmdh_badge(cases[k].phase, cases[k].heard, cases[k].limit, cases[k].time);
+        expect(cases[k].what, why == cases[k].why && badge == cases[k].badge);
     }
 }
 
@@ -59,6 +85,9 @@ int main(int argc, char **argv) {
     expect("green to the limit", mmdh_badge(f.phase, f.heard, f.limit, 6) == MMDH_GREEN && mmdh_badge(f.phase, f.heard, f.limit, 1006) == MMDH_GREEN);
     expect("stale beyond it and before", mmdh_badge(f.phase, f.heard, f.limit, 1007) == MMDH_STALE && mmdh_badge(f.phase, f.heard, f.limit, 5) == MMDH_STALE);
     expect("an unknown phase is stale", mmdh_badge(7, f.heard, f.limit, 6) == MMDH_STALE);
+
+    reasons();
+    expect("live by its reason", mmdh_why(f.phase, f.heard, f.limit, 6) == MMDH_WHY_LIVE);
 
     MmdhGiven gap = mmdh_arrive_cut(f, table, 129, 9, 2, bytes + 72, 36, 7);
     expect("a lost message is 13, and Lost", gap.answer == MMDH_NOT_NEXT && gap.used == 0 && gap.feed.phase == MMDH_LOST && gap.feed.whole == 1);

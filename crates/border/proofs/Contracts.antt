@@ -9,6 +9,7 @@ use Rattle.screen.proofs.mmdh_connect.Reads as connect
 use Rattle.screen.proofs.mmdh_arrive.Reads as arrive
 use Rattle.screen.proofs.mmdh_arrive_cut.Reads as arrive-cut
 use Rattle.screen.proofs.mmdh_badge.Reads as badge
+use Rattle.screen.proofs.mmdh_why.Reads as why
 use Rattle.screen.proofs.mmdh_read_row.Reads as read-row
 
 -- nothing is asked of who calls
@@ -26,6 +27,9 @@ arrive-cut-asks κs a = tt
 
 pub badge-asks : (κs : _) (a : _) → badge.Asked κs a
 badge-asks κs a = tt
+
+pub why-asks : (κs : _) (a : _) → why.Asked κs a
+why-asks κs a = tt
 
 pub read-row-asks : (κs : _) (a : _) → read-row.Asked κs a
 read-row-asks κs a = tt
@@ -47,6 +51,9 @@ arrive-cut-one κs a r r′ x x′ p q = (ap (λ (o : PlainOut). o .given) (p �
 
 pub badge-one : (κs : _) (a : _) (r r′ : _) (x x′ : _) → badge.Learnt κs a r x → badge.Learnt κs a r′ x′ → r ≡ r′
 badge-one κs a r r′ x x′ p q = p ∙ sym q
+
+pub why-one : (κs : _) (a : _) (r r′ : _) (x x′ : _) → why.Learnt κs a r x → why.Learnt κs a r′ x′ → r ≡ r′
+why-one κs a r r′ x x′ p q = p ∙ sym q
 
 pub read-row-one : (κs : _) (a : _) (r r′ : _) (x x′ : _) → read-row.Learnt κs a r x → read-row.Learnt κs a r′ x′ → r ≡ r′
 read-row-one κs a r r′ x x′ p q = p ∙ sym q

@@ -4,6 +4,7 @@ use mathlib.Core.Path.{_≡_}
 use mathlib.Core.List.{List}
 use Rattle.books.specs.Reading.{readRow}
 use Rattle.feed.specs.Feeds.{newGiven, plainBadge}
+use Rattle.feed.specs.Reasons.{plainWhy}
 use Rattle.screen.specs.Plain.{plainGiven, plainOut, plainRow}
 use Rattle.screen.specs.Calls.{Connects, Arrives, ArrivesCut, handsBack}
 use Rattle.screen.specs.declared.MmdhFeed.{MmdhFeed}
@@ -28,6 +29,10 @@ CutSays feed books seq internal m time r after = plainOut r after ≡ handsBack 
 -- mmdh_badge
 abbrev pub BadgeSays : ℕ → ℕ → ℕ → ℕ → ℕ → Type 0
 BadgeSays phase heard limit time r = r ≡ plainBadge phase heard limit time
+
+-- mmdh_why
+abbrev pub WhySays : ℕ → ℕ → ℕ → ℕ → ℕ → Type 0
+WhySays phase heard limit time r = r ≡ plainWhy phase heard limit time
 
 -- mmdh_read_row
 abbrev pub RowSays : List ℕ → ℕ → ℕ → ℕ → MmdhRow → Type 0

@@ -1,6 +1,6 @@
 // The library by plain C calls, for the screens: numbers, structs of numbers by value, and slices as pointer and length.
 ghost use mathlib.Core.Path.{_≡_};
-ghost use Rattle.screen.specs.Contracts.{NewSays, ConnectSays, ArriveSays, CutSays, BadgeSays, RowSays};
+ghost use Rattle.screen.specs.Contracts.{NewSays, ConnectSays, ArriveSays, CutSays, BadgeSays, WhySays, RowSays};
 ghost use Rattle.screen.specs.Plain.{yes, bit, linkOf, feedOf, plainFeed, plainGiven};
 use books::RowRead;
 use feed::Feed;
@@ -180,4 +180,12 @@ pub extern "C" fn mmdh_badge(phase: u64, heard: u64, limit: u64, time: u64) -> u
     ensures { λ r. ⌜ BadgeSays phase heard limit time r ⌝ }
 {
     feed::badge_asked(phase, heard, limit, time)
+}
+
+// Why the badge is what it is at a time: 0 live, 1 new, 2 key, 3 logon, 4 refresh, 5 silent, 6 early, 7 lost, 8 closed, 9 limit.
+#[no_mangle]
+pub extern "C" fn mmdh_why(phase: u64, heard: u64, limit: u64, time: u64) -> u64
+    ensures { λ r. ⌜ WhySays phase heard limit time r ⌝ }
+{
+    feed::why_asked(phase, heard, limit, time)
 }

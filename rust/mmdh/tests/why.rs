@@ -1,7 +1,11 @@
 //! The reason against the badge, over a grid of phases, limits and times.
 
 use exchange::{message, session, unit};
+use mmdh::raw;
 use mmdh::{Badge, Connect, Line, Why};
+
+const PHASES: [u64; 10] = [0, 1, 2, 3, 4, 5, 6, 7, (1 << 32) + 4, u64::MAX];
+const LIMITS: [u64; 7] = [0, 1, 1_000, 600_000, 600_001, 1 << 32, u64::MAX];
 
 /// A line in each phase that can be reached, heard at a time; its reason within the limit.
 fn lines(limit: u64, time: u64) -> Vec<(Line, Why)> {
@@ -70,5 +74,45 @@ fn reasons_have_their_numbers() {
     for (number, why) in all.into_iter().enumerate() {
         assert_eq!(why.number(), number as u64);
         assert!(why.to_string().len() > 3);
+    }
+}
+
+/// Green exactly if 0, filling exactly if 2, 3 or 4.
+#[test]
+fn the_reason_of_any_numbers_goes_with_their_badge() {
+    for phase in PHASES {
+        for limit in LIMITS {
+            for heard in [0, 1, 5_000, u64::MAX - 1_000, u64::MAX] {
+                let end = heard.wrapping_add(limit);
+                for time in [0, heard.wrapping_sub(1), heard, end, end.wrapping_add(1), u64::MAX] {
+                    let badge = [1, 0, 2, 2, 2, 0, 0, 0, 0, 0][raw::why(phase, heard, limit, time) as usize];
+                    assert_eq!(badge, raw::badge(phase, heard, limit, time), "{} {} {} {}", phase, heard, limit, time);
+                }
+            }
+        }
+    }
+}
+
+/// A phase that is stale by itself, then the limit, then the clock, then the phase.
+#[test]
+fn reasons_come_in_their_order() {
+    let cases = [
+        (0, 5, 0, 4, 1),
+        (5, 5, 0, 4, 7),
+        (7, 5, 0, 4, 7),
+        (u64::MAX, 5, 1_000, 5, 7),
+        (6, 5, 0, 4, 8),
+        (4, 5, 0, 4, 9),
+        (1, 5, 600_001, 4, 9),
+        (4, 5, 1_000, 4, 6),
+        (3, 5, 1_000, 1_006, 5),
+        (1, 5, 1_000, 1_005, 2),
+        (2, 5, 1_000, 5, 3),
+        (3, 5, 1_000, 5, 4),
+        (4, 5, 1_000, 1_005, 0),
+        (4, u64::MAX, 1_000, u64::MAX, 0),
+    ];
+    for (phase, heard, limit, time, wanted) in cases {
+        assert_eq!(raw::why(phase, heard, limit, time), wanted, "{} {} {} {}", phase, heard, limit, time);
     }
 }
