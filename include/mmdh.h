@@ -6,8 +6,8 @@
  *
  * The table is lent: 64 words a book, at most 4,096 books; words behind the last whole book are never read or written.
  * Start with all words zero, lend the same table at every call, and hand in the feed that the call before handed back.
- * Slices are a pointer and a length in elements. The pointer must not be null, not even with length 0, and the table
- * must not overlap the bytes.
+ * Slices are a pointer and a length in elements; with length 0 the pointer may be null. The table must not overlap the
+ * bytes.
  */
 #ifndef MMDH_H
 #define MMDH_H
@@ -25,7 +25,7 @@ extern "C" {
 /* Answers. After MMDH_TAKEN, MMDH_SEEN and MMDH_PASSED bytes are used; every other answer writes nothing to the table. */
 enum {
     MMDH_TAKEN = 0,          /* also a connect or a new feed that is accepted, and a row that is read */
-    MMDH_SEEN = 1,           /* internal number not above the last: numbers advance, nothing else */
+    MMDH_SEEN = 1,           /* internal number not above the last: SeqNum advances and the time is heard, nothing else */
     MMDH_PASSED = 2,         /* a market message other than a book message */
     MMDH_MORE = 3,           /* bytes are missing: call again with more */
     MMDH_NO_ROW = 4,         /* reading a row only: no book, or no such row */

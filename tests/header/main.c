@@ -41,6 +41,26 @@ static void reasons(void) {
     }
 }
 
+/* With length 0 a pointer may be null. */
+static void nothing_lent(void) {
+    MmdhFeed open = mmdh_connect(mmdh_new(1000).feed, 0, 5).feed;
+    MmdhGiven more = mmdh_arrive(open, NULL, 0, NULL, 0, 6);
+    expect("no bytes and no table: more", more.answer == MMDH_MORE && more.used == 0 && more.feed.phase == MMDH_WAIT_KEY);
+    MmdhGiven cut = mmdh_arrive_cut(open, NULL, 0, 1, 0, NULL, 0, 6);
+    expect("a message of no bytes: wrong size", cut.answer == MMDH_WRONG_SIZE && cut.feed.phase == MMDH_LOST);
+    expect("a row of no table", mmdh_read_row(NULL, 0, 700, 0, 1).answer == MMDH_NO_ROW);
+
+    /* a logon that clears, and a book message, on no table */
+    static const uint8_t logon[8] = {8, 0, 0x4E, 4, 0, 0, 0, 0};
+    static const uint8_t book[36] = {36, 0, 53, 0, 0xBC, 2, 0, 0, 0, 0, 0, 1, 1, 0, 0, 0, 0, 0, 0, 0, 1, 0, 0, 0, 1, 0, 0, 0, 0, 0, 1, 0};
+    static const uint8_t key[4] = {4, 0, 0x51, 4};
+    MmdhFeed f = mmdh_arrive_cut(open, NULL, 0, 1, 0, key, sizeof key, 6).feed;
+    MmdhGiven live = mmdh_arrive_cut(f, NULL, 0, 2, 0, logon, sizeof logon, 6);
+    expect("a logon clears no table", live.answer == MMDH_TAKEN && live.feed.phase == MMDH_LIVE);
+    expect("a book message finds no slot in no table",
+           mmdh_arrive_cut(live.feed, NULL, 0, 3, 1, book, sizeof book, 6).answer == MMDH_FULL);
+}
+
 int main(int argc, char **argv) {
     static uint64_t table[2 * MMDH_BOOK_WORDS + 1];
     static uint8_t bytes[4096];
@@ -87,6 +107,7 @@ int main(int argc, char **argv) {
     expect("an unknown phase is stale", mmdh_badge(7, f.heard, f.limit, 6) == MMDH_STALE);
 
     reasons();
+    nothing_lent();
     expect("live by its reason", mmdh_why(f.phase, f.heard, f.limit, 6) == MMDH_WHY_LIVE);
 
     MmdhGiven gap = mmdh_arrive_cut(f, table, 129, 9, 2, bytes + 72, 36, 7);
