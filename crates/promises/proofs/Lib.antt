@@ -15,3 +15,4 @@ pub mod Decisions
 pub mod Pieces
 pub mod Contracts
 pub mod Why
+pub mod Sides

@@ -20,3 +20,4 @@ pub mod Leaves
 pub mod Decisions
 pub mod Pieces
 pub mod Why
+pub mod Sides
