@@ -24,11 +24,11 @@ extern "C" {
 
 /* Answers. After MMDH_TAKEN, MMDH_SEEN and MMDH_PASSED bytes are used; every other answer writes nothing to the table. */
 enum {
-    MMDH_TAKEN = 0,          /* also a connect or a new feed that is accepted, and a row that is read */
+    MMDH_TAKEN = 0,          /* also a connect or a new feed that is accepted, and a row or a side that is read */
     MMDH_SEEN = 1,           /* internal number not above the last: SeqNum advances and the time is heard, nothing else */
     MMDH_PASSED = 2,         /* a market message other than a book message */
     MMDH_MORE = 3,           /* bytes are missing: call again with more */
-    MMDH_NO_ROW = 4,         /* reading a row only: no book, or no such row */
+    MMDH_NO_ROW = 4,         /* reading only: no book, or no such row */
     MMDH_EARLY = 10,         /* the time is before the last heard time */
     MMDH_NOT_OPEN = 11,      /* arrival in Idle, Lost or Closed */
     MMDH_WRONG_SIZE = 12,    /* wrong size: Lost */
@@ -100,6 +100,20 @@ typedef struct {
     uint64_t orders;
 } MmdhRow;
 
+/* A row of a side that is read at once. */
+typedef struct {
+    int64_t price;
+    uint64_t quantity;
+    uint64_t orders;
+} MmdhLevel;
+
+/* The rows of a side, best first. Behind the count, and with an answer other than 0, all is 0. */
+typedef struct {
+    uint64_t answer;
+    uint64_t count;
+    MmdhLevel row[10];
+} MmdhSide;
+
 /* A new feed with a silence limit in milliseconds. */
 MmdhGiven mmdh_new(uint64_t limit);
 
@@ -116,6 +130,10 @@ MmdhGiven mmdh_arrive_cut(MmdhFeed feed, uint64_t *table, size_t table_len, uint
 
 /* A row by code, side (0 bid, 1 offer) and rank (1 to 10). */
 MmdhRow mmdh_read_row(const uint64_t *table, size_t table_len, uint64_t code, uint64_t side, uint64_t rank);
+
+/* All rows of a side at once: row[k] is what mmdh_read_row gives at rank k + 1. A side with no rows is answer 0 and count 0;
+   a book that is not there is 4. */
+MmdhSide mmdh_read_side(const uint64_t *table, size_t table_len, uint64_t code, uint64_t side);
 
 /* The badge at a time, of a feed's phase, last heard time and limit: a limit outside 1 to 600,000 is stale. */
 uint64_t mmdh_badge(uint64_t phase, uint64_t heard, uint64_t limit, uint64_t time);

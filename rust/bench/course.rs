@@ -5,11 +5,11 @@ use mmdh::raw::{self, MmdhFeed};
 use twin::{Answer, Feed, Phase};
 
 const SLOT: usize = 64;
-const BOOKS: usize = 128;
+pub const BOOKS: usize = 128;
 const SEED: u64 = 0x9E37_79B9_7F4A_7C15;
 /// Messages to each book before the course begins.
 const WARM: usize = 8;
-const FIRST_CODE: u32 = 700;
+pub const FIRST_CODE: u32 = 700;
 
 /// Who walks the course.
 #[derive(Clone, Copy)]

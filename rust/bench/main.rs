@@ -1,9 +1,11 @@
 //! Nanoseconds a message: single arrivals through the C calls, against the plain twin and the tuned one.
 //! 128 books, 2 to 4 entries a message, every message fits; all three must end with the same table.
+//! And microseconds a repaint of all their sides, by sides at once against single reads.
 
 #![forbid(unsafe_code)]
 
 mod course;
+mod repaint;
 
 use course::{Course, Walker, WALKERS};
 use std::process::exit;
@@ -50,6 +52,7 @@ fn short() -> Result<(), String> {
         let course = Course::new(slots, 300);
         check(&course)?;
         println!("{:>5} slots: {} messages, the same table three times", slots, course.messages());
+        println!("{:>5} slots: {} rows, the same by sides and by single reads", slots, repaint::check(&course)?);
     }
     Ok(())
 }
@@ -63,6 +66,19 @@ fn full() -> Result<(), String> {
         let [library, plain, tuned] = measure(&course, passes);
         let ratios = (library / plain, library / tuned);
         println!("{:>5} {:>8.1} {:>8.1} {:>8.1} {:>14.2} {:>14.2}", slots, library, plain, tuned, ratios.0, ratios.1);
+    }
+    repaints()
+}
+
+/// A whole repaint, in a table of its own.
+fn repaints() -> Result<(), String> {
+    println!("\nmicroseconds a repaint of all sides of 128 books, best of alternating passes");
+    println!("slots  by sides   by rows  rows/sides");
+    for (slots, _, _) in COURSES {
+        let course = Course::new(slots, 0);
+        repaint::check(&course)?;
+        let [sides, rows] = repaint::measure(&course);
+        println!("{:>5} {:>9.1} {:>9.1} {:>11.1}", slots, sides, rows, rows / sides);
     }
     Ok(())
 }

@@ -1,7 +1,6 @@
 //! The books: a table of 64-bit words, owned or lent, and the rows in it.
 
-use crate::later::{self, MmdhLevel, ROWS};
-use crate::raw;
+use crate::raw::{self, MmdhLevel, ROWS};
 use crate::{Answer, Refused};
 use std::fmt;
 use std::ops::Deref;
@@ -107,7 +106,7 @@ impl<'a> Books<'a> {
     /// The rows of one side at once, best first; refused with 15 where there is no such code, 4 where it has no book,
     /// 18 where its book is not sound. A book with an empty side is none of these: it has no rows.
     pub fn side(&self, code: u64, side: Side) -> Result<Rows, Refused> {
-        let read = later::read_side(self.words(), code, side.number());
+        let read = raw::read_side(self.words(), code, side.number());
         let rows = Rows { rows: read.row.map(Row::of), count: read.count as usize };
         Answer::given(read.answer).or_refused().map(|_| rows)
     }

@@ -41,7 +41,6 @@
 mod answer;
 mod books;
 mod feed;
-mod later;
 mod line;
 #[allow(unsafe_code)]
 pub mod raw;

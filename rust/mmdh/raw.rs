@@ -49,6 +49,33 @@ pub struct MmdhRow {
     pub orders: u64,
 }
 
+/// Most rows of a side.
+pub const ROWS: usize = 10;
+
+/// A row of a side that is read at once.
+#[repr(C)]
+#[derive(Clone, Copy, PartialEq, Eq, Debug, Default)]
+pub struct MmdhLevel {
+    /// Thousandths, signed as sent.
+    pub price: i64,
+    /// Shares.
+    pub quantity: u64,
+    /// Orders.
+    pub orders: u64,
+}
+
+/// What reading a side hands back: behind the count, and with an answer other than 0, all is 0.
+#[repr(C)]
+#[derive(Clone, Copy, PartialEq, Eq, Debug, Default)]
+pub struct MmdhSide {
+    /// 15, 4, 18 or 0.
+    pub answer: u64,
+    /// How many rows there are.
+    pub count: u64,
+    /// The rows, best first.
+    pub row: [MmdhLevel; ROWS],
+}
+
 extern "C" {
     fn mmdh_new(limit: u64) -> MmdhGiven;
     fn mmdh_connect(feed: MmdhFeed, resuming: u64, time: u64) -> MmdhGiven;
@@ -65,6 +92,7 @@ extern "C" {
         time: u64,
     ) -> MmdhGiven;
     fn mmdh_read_row(table: *const u64, words: usize, code: u64, side: u64, rank: u64) -> MmdhRow;
+    fn mmdh_read_side(table: *const u64, words: usize, code: u64, side: u64) -> MmdhSide;
     fn mmdh_badge(phase: u64, heard: u64, limit: u64, time: u64) -> u64;
     fn mmdh_why(phase: u64, heard: u64, limit: u64, time: u64) -> u64;
 }
@@ -104,6 +132,13 @@ pub fn arrive_cut(feed: MmdhFeed, table: &mut [u64], seq: u32, internal: u32, me
 pub fn read_row(table: &[u64], code: u64, side: u64, rank: u64) -> MmdhRow {
     // SAFETY: pointer and length are one slice's; the call reads within it, writes nothing and keeps nothing.
     unsafe { mmdh_read_row(table.as_ptr(), table.len(), code, side, rank) }
+}
+
+/// Reads all rows of a side (0 bid, 1 offer) at once: row k is what `read_row` gives at rank k + 1.
+#[inline]
+pub fn read_side(table: &[u64], code: u64, side: u64) -> MmdhSide {
+    // SAFETY: as for `read_row`.
+    unsafe { mmdh_read_side(table.as_ptr(), table.len(), code, side) }
 }
 
 /// The badge: 0 Stale, 1 Green, 2 Filling.

@@ -24,6 +24,8 @@ pub fn check(pair: &mut Pair, dice: &mut Dice) {
     fields(pair, dice);
     pair.tally.part("rows read over every code, side and rank");
     rows(pair, dice);
+    pair.tally.part("sides read over every code, side and way of being unsound");
+    sides(pair, dice);
 }
 
 fn statuses(pair: &mut Pair, dice: &mut Dice) {
@@ -132,5 +134,23 @@ fn rows(pair: &mut Pair, dice: &mut Dice) {
                 }
             }
         }
+    }
+}
+
+fn sides(pair: &mut Pair, dice: &mut Dice) {
+    for words in [0, 63, 64, 65, 127, 128, 192, 192, 192, 320, 8_192] {
+        for _ in 0..40 {
+            let table = scene::table(dice, words);
+            for code in scene::CODES.into_iter().chain([0, 6, 100_000, (1 << 32) + 700, u64::MAX]) {
+                for side in [0, 1, 2, u64::MAX] {
+                    pair.read_side(&table, code, side);
+                }
+            }
+        }
+    }
+    for _ in 0..2_000 {
+        let mut book = scene::book(dice, 700);
+        scene::spoil(dice, &mut book);
+        pair.read_side(&book, 700, dice.below(2));
     }
 }

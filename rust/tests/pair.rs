@@ -1,8 +1,8 @@
 //! One call made twice: through the C calls and to the twin, then compared in answer, feed, bytes used and every word.
 
 use crate::tally::{Call, Tally};
-use mmdh::raw::{self, MmdhFeed, MmdhGiven, MmdhRow};
-use twin::{Feed, Given, Phase, Read};
+use mmdh::raw::{self, MmdhFeed, MmdhGiven, MmdhLevel, MmdhRow, MmdhSide, ROWS};
+use twin::{Feed, Given, Phase, Read, ReadSide};
 
 /// The twin's feed of plain numbers.
 pub fn twin_feed(plain: MmdhFeed) -> Feed {
@@ -36,6 +36,21 @@ fn plain_given(given: Given) -> MmdhGiven {
 
 fn plain_row(read: Read) -> MmdhRow {
     MmdhRow { answer: read.answer as u64, price: read.price, quantity: read.quantity, orders: read.orders }
+}
+
+fn plain_side(read: ReadSide) -> MmdhSide {
+    let mut side = MmdhSide { answer: read.answer as u64, count: read.rows.len() as u64, ..MmdhSide::default() };
+    for (level, (price, quantity, orders)) in side.row.iter_mut().zip(read.rows) {
+        *level = MmdhLevel { price, quantity, orders };
+    }
+    side
+}
+
+/// The side that single reads make, rank by rank, beside the answer that it has.
+fn by_singles(answer: u64, singles: &[MmdhRow; ROWS]) -> MmdhSide {
+    let count = singles.iter().filter(|row| row.answer == 0).count() as u64;
+    let row = singles.map(|row| MmdhLevel { price: row.price, quantity: row.quantity, orders: row.orders });
+    MmdhSide { answer, count, row }
 }
 
 /// Both sides' copies of a table, kept for use again.
@@ -117,6 +132,24 @@ impl Pair {
         let twins = plain_row(twin::read_row(table, code, side, rank));
         self.tally.same(&ours, &twins, || format!("read_row {} {} {}\n  {}", code, side, rank, words(table)));
         ours
+    }
+
+    /// A side at once against the twin's, and against single reads of the library and of the twin.
+    pub fn read_side(&mut self, table: &[u64], code: u64, side: u64) {
+        let ours = raw::read_side(table, code, side);
+        let input = || format!("read_side {} {}\n  {}", code, side, words(table));
+        self.tally.met(Call::ReadSide, ours.answer);
+        self.tally.same(&ours, &plain_side(twin::read_side(table, code, side)), input);
+        let ranks: [u64; ROWS] = std::array::from_fn(|at| at as u64 + 1);
+        let singles = ranks.map(|rank| raw::read_row(table, code, side, rank));
+        self.tally.same(&ours, &by_singles(ours.answer, &singles), input);
+        let twins = ranks.map(|rank| plain_row(twin::read_row(table, code, side, rank)));
+        self.tally.same(&ours, &by_singles(ours.answer, &twins), input);
+        let wanted = ranks.map(|rank| match ours.answer {
+            0 if rank > ours.count => 4,
+            answer => answer,
+        });
+        self.tally.same(&singles.map(|row| row.answer), &wanted, input);
     }
 
     pub fn badge(&mut self, phase: u64, heard: u64, limit: u64, time: u64) -> u64 {

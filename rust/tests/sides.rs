@@ -1,10 +1,10 @@
-//! A side at once, as the cover reads it, against the twin's book.
+//! A side at once, as the cover reads it, against the twin's.
 
 use crate::scene;
 use crate::tally::Tally;
 use exchange::dice::Dice;
 use mmdh::{Books, Side};
-use twin::book::{self, Book};
+use twin::Answer;
 
 const LENGTHS: [usize; 8] = [0, 63, 64, 65, 128, 192, 200, 640];
 const CODES: [u64; 9] = [1, 5, 700, 2_800, 99_999, 42, 0, 100_000, u64::MAX];
@@ -35,14 +35,10 @@ fn covers(table: &mut [u64], code: u64, side: Side) -> Read {
     Ok(rows.iter().map(|row| (row.price, row.quantity, row.orders)).collect())
 }
 
-/// By document 01's order: 15, 4 where there is no book, 18, else the rows there are.
 fn twins(table: &[u64], code: u64, side: Side) -> Read {
-    if !book::code_listed(code) {
-        return Err(15);
+    let read = twin::read_side(table, code, u64::from(side == Side::Offer));
+    match read.answer {
+        Answer::Taken => Ok(read.rows),
+        refused => Err(refused as u64),
     }
-    let slot = book::find(table, code).map(|k| book::slot(table, k)).ok_or(4u64)?;
-    let book = Book::read(slot).ok_or(18u64)?;
-    let rows = if side == Side::Bid { book.bids } else { book.offers };
-    let plain = |row: &book::Row| (i64::from(row.price), row.quantity, u64::from(row.orders));
-    Ok(rows.rows().iter().map(plain).collect())
 }

@@ -15,7 +15,7 @@ const CALLS: u64 = 10;
 
 /// Small tables, many calls.
 pub fn check(pair: &mut Pair, dice: &mut Dice, rounds: u64) {
-    pair.tally.part("single arrivals and row reads, library against twin");
+    pair.tally.part("single arrivals, rows and sides read, library against twin");
     for _ in 0..rounds / CALLS {
         let words = dice.of(&LENGTHS);
         let table = scene::table(dice, words);
@@ -44,14 +44,14 @@ pub fn check(pair: &mut Pair, dice: &mut Dice, rounds: u64) {
 
 /// Tables of 128 slots, and around the most slots a table has.
 pub fn check_large(pair: &mut Pair, dice: &mut Dice, rounds: u64) {
-    pair.tally.part("single arrivals and row reads on tables of 8,192 words");
+    pair.tally.part("single arrivals, rows and sides read on tables of 8,192 words");
     for _ in 0..rounds {
         let table = scene::table(dice, 8_192);
         for _ in 0..CALLS {
             arrival(pair, dice, &table);
         }
     }
-    pair.tally.part("single arrivals and row reads on tables of 4,095 to 4,097 slots");
+    pair.tally.part("single arrivals, rows and sides read on tables of 4,095 to 4,097 slots");
     for slots in 4_095..=4_097 {
         full(pair, dice, slots);
     }
@@ -76,6 +76,7 @@ fn full(pair: &mut Pair, dice: &mut Dice, slots: usize) {
                 &exchange::book_message(code as u32, &[Entry { action: CLEAR, ..Entry::default() }]),
             );
             pair.read_row(&table, code, dice.below(2), 1);
+            pair.read_side(&table, code, dice.below(2));
         }
     }
     for status in [0, 101] {
@@ -90,7 +91,7 @@ fn whole_table(pair: &mut Pair, table: &[u64], message: &[u8]) {
     pair.arrive_cut(MmdhFeed { phase: 3, whole: 0, ..LIVE }, table, 1, 0, message, 1);
 }
 
-/// One arrival as a stream, then maybe the same message already cut, and a row read.
+/// One arrival as a stream, then maybe the same message already cut, a row read, a side read.
 fn arrival(pair: &mut Pair, dice: &mut Dice, table: &[u64]) {
     let (feed, bytes, time) = stream(dice, table);
     pair.arrive(feed, table, &bytes, time);
@@ -101,6 +102,9 @@ fn arrival(pair: &mut Pair, dice: &mut Dice, table: &[u64]) {
     }
     if dice.once_in(4) {
         pair.read_row(table, dice.of(&scene::CODES), dice.below(2), 1 + dice.below(10));
+    }
+    if dice.once_in(16) {
+        pair.read_side(table, dice.of(&scene::CODES), dice.below(2));
     }
 }
 

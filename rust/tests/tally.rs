@@ -11,15 +11,17 @@ pub enum Call {
     Arrive,
     ArriveCut,
     ReadRow,
+    ReadSide,
     Why,
 }
 
-const WANTED: [(Call, &[u64]); 6] = [
+const WANTED: [(Call, &[u64]); 7] = [
     (Call::New, &[0, 19]),
     (Call::Connect, &[0, 10, 20]),
     (Call::Arrive, &[0, 1, 2, 3, 10, 11, 12, 13, 14, 15, 16, 17, 18]),
     (Call::ArriveCut, &[0, 1, 2, 10, 11, 12, 13, 14, 15, 16, 17, 18]),
     (Call::ReadRow, &[0, 4, 15, 18]),
+    (Call::ReadSide, &[0, 4, 15, 18]),
     (Call::Why, &[0, 1, 2, 3, 4, 5, 6, 7, 8, 9]),
 ];
 

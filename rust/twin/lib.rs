@@ -129,6 +129,15 @@ pub struct Read {
     pub orders: u64,
 }
 
+/// What reading a side hands back.
+#[derive(Clone, PartialEq, Eq, Debug)]
+pub struct ReadSide {
+    /// The answer.
+    pub answer: Answer,
+    /// Price, quantity and orders of each row, best first; none with an answer other than 0.
+    pub rows: Vec<(i64, u64, u64)>,
+}
+
 fn limit_listed(limit: u64) -> bool {
     (1..=600_000).contains(&limit)
 }
@@ -234,6 +243,22 @@ pub fn read_row(table: &[u64], code: u64, side: u64, rank: u64) -> Read {
             orders: u64::from(row.orders),
         },
     }
+}
+
+/// Reads all rows of a side at once: 15 where code or side are not listed, 4 where the code has no book, 18, else 0.
+pub fn read_side(table: &[u64], code: u64, side: u64) -> ReadSide {
+    let rows = side_rows(table, code, side);
+    ReadSide { answer: rows.as_ref().err().copied().unwrap_or(Answer::Taken), rows: rows.unwrap_or_default() }
+}
+
+fn side_rows(table: &[u64], code: u64, side: u64) -> Result<Vec<(i64, u64, u64)>, Answer> {
+    if !book::code_listed(code) || side > 1 {
+        return Err(Answer::NotListed);
+    }
+    let slot = book::find(table, code).map(|k| book::slot(table, k)).ok_or(Answer::NoRow)?;
+    let book = Book::read(slot).ok_or(Answer::Unsound)?;
+    let rows = [book.bids, book.offers][side as usize];
+    Ok(rows.rows().iter().map(|row| (i64::from(row.price), row.quantity, u64::from(row.orders))).collect())
 }
 
 /// Types that are no market message.

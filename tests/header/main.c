@@ -1,4 +1,5 @@
-/* include/mmdh.h as a C program meets it: example 10's three units through the archive, the row they leave, the badge and every reason. */
+/* include/mmdh.h as a C program meets it: example 10's three units through the archive, the row and the sides they leave, the
+   badge and every reason. */
 #include <stdio.h>
 #include <string.h>
 
@@ -61,6 +62,46 @@ static void nothing_lent(void) {
            mmdh_arrive_cut(live.feed, NULL, 0, 3, 1, book, sizeof book, 6).answer == MMDH_FULL);
 }
 
+/* A side against single reads, rank by rank; where it is not read, each of them is refused alike. */
+static int as_single(const uint64_t *table, size_t len, uint64_t code, uint64_t side) {
+    MmdhSide all = mmdh_read_side(table, len, code, side);
+    int same = 1;
+    for (uint64_t rank = 1; rank <= 10; rank++) {
+        MmdhRow row = mmdh_read_row(table, len, code, side, rank);
+        MmdhLevel level = all.row[rank - 1];
+        uint64_t answer = all.answer != 0 ? all.answer : rank <= all.count ? MMDH_TAKEN : MMDH_NO_ROW;
+        same = same && row.answer == answer && level.price == row.price && level.quantity == row.quantity && level.orders == row.orders;
+    }
+    return same && (all.answer == 0 || all.count == 0);
+}
+
+/* Full sides, an empty one, and every refusal. */
+static void sides(void) {
+    static uint64_t table[2 * MMDH_BOOK_WORDS];
+    table[0] = 700;
+    table[1] = 10;
+    for (size_t k = 0; k < 10; k++) {
+        uint64_t row[3] = {2147483648u - k, 100 + k, 1 + k};
+        memcpy(table + 4 + 3 * k, row, sizeof row);
+    }
+    table[64] = 701;
+    table[64 + 3] = 1;
+    MmdhSide bids = mmdh_read_side(table, 128, 700, 0);
+    expect("ten bids", bids.answer == 0 && bids.count == 10 && bids.row[0].price == 0 && bids.row[9].price == -9);
+    expect("the last of them", bids.row[9].quantity == 109 && bids.row[9].orders == 10);
+    MmdhSide offers = mmdh_read_side(table, 128, 700, 1);
+    expect("an empty side", offers.answer == 0 && offers.count == 0 && offers.row[0].price == 0);
+    expect("a side of no book", mmdh_read_side(table, 128, 702, 0).answer == MMDH_NO_ROW);
+    expect("a side of an unsound book", mmdh_read_side(table, 128, 701, 0).answer == MMDH_UNSOUND);
+    expect("a side of no code", mmdh_read_side(table, 128, 100000, 0).answer == MMDH_NOT_LISTED);
+    expect("no such side", mmdh_read_side(table, 128, 700, 2).answer == MMDH_NOT_LISTED);
+    for (uint64_t code = 699; code <= 702; code++) {
+        for (uint64_t side = 0; side <= 2; side++) {
+            expect("a side as single reads give it", as_single(table, 128, code, side));
+        }
+    }
+}
+
 int main(int argc, char **argv) {
     static uint64_t table[2 * MMDH_BOOK_WORDS + 1];
     static uint8_t bytes[4096];
@@ -105,6 +146,9 @@ int main(int argc, char **argv) {
     expect("green to the limit", mmdh_badge(f.phase, f.heard, f.limit, 6) == MMDH_GREEN && mmdh_badge(f.phase, f.heard, f.limit, 1006) == MMDH_GREEN);
     expect("stale beyond it and before", mmdh_badge(f.phase, f.heard, f.limit, 1007) == MMDH_STALE && mmdh_badge(f.phase, f.heard, f.limit, 5) == MMDH_STALE);
     expect("an unknown phase is stale", mmdh_badge(7, f.heard, f.limit, 6) == MMDH_STALE);
+
+    expect("the bids at once", as_single(table, 129, 700, 0) && mmdh_read_side(table, 129, 700, 0).count == 1);
+    sides();
 
     reasons();
     nothing_lent();

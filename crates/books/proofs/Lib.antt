@@ -1,4 +1,5 @@
 pub mod Lawful
 pub mod Turning
 pub mod Showing
+pub mod Sides
 pub mod Frames

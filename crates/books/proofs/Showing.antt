@@ -34,23 +34,32 @@ use Rattle.books.specs.Code.Rows.{rowOfSide, rowOfBook}
 use Rattle.books.specs.declared.RowRead.{RowRead}
 use Rattle.books.proofs.Turning.{turning}
 
--- code, side and rank
+-- code and side, and rank
+abbrev pub sideAsked : ℕ → ℕ → Bool
+sideAsked c side = listedCode c && listedSide side
+
 abbrev pub asked : ℕ → ℕ → ℕ → Bool
 asked c side rank = listedCode c && listedSide side && listedRank rank
 
-pub asked-code : (c side rank : ℕ) (a : Bool) → a ≡ listedCode c → a ≡ false → false ≡ asked c side rank
-asked-code c side rank a e n = rw (sym e ∙ n)
+pub side-no-code : (c side : ℕ) (a : Bool) → a ≡ listedCode c → a ≡ false → false ≡ sideAsked c side
+side-no-code c side a e n = rw (sym e ∙ n)
 
-pub asked-side : (c side rank : ℕ) (a : Bool) → a ≡ listedCode c → a ≡ true → 1 < side → false ≡ asked c side rank
-asked-side c side rank a e y h = rw (sym e ∙ y, side-unknown side h)
+pub side-other : (c side : ℕ) (a : Bool) → a ≡ listedCode c → a ≡ true → 1 < side → false ≡ sideAsked c side
+side-other c side a e y h = rw (sym e ∙ y, side-unknown side h)
 
-pub asked-zero : (c side rank : ℕ) (a : Bool) → a ≡ listedCode c → a ≡ true → side ≤ 1 → rank < 1 → false ≡ asked c side rank
+pub side-either : (c side : ℕ) (a : Bool) → a ≡ listedCode c → a ≡ true → side ≤ 1 → true ≡ sideAsked c side
+side-either c side a e y h = rw (sym e ∙ y, side-known side h)
+
+pub asked-side : (c side rank : ℕ) (a : Bool) → a ≡ sideAsked c side → a ≡ false → false ≡ asked c side rank
+asked-side c side rank a e n = rw (sym e ∙ n)
+
+pub asked-zero : (c side rank : ℕ) (a : Bool) → a ≡ sideAsked c side → a ≡ true → rank < 1 → false ≡ asked c side rank
 unfolding listedRank
-asked-zero c side rank a e y h l = rw (sym e ∙ y, side-known side h, lt-leb 1 rank l)
+asked-zero c side rank a e y l = rw (sym e ∙ y, lt-leb 1 rank l)
 
-pub asked-rank : (c side rank : ℕ) (a : Bool) → a ≡ listedCode c → a ≡ true → side ≤ 1 → 1 ≤ rank → leb rank depth ≡ asked c side rank
+pub asked-rank : (c side rank : ℕ) (a : Bool) → a ≡ sideAsked c side → a ≡ true → 1 ≤ rank → leb rank depth ≡ asked c side rank
 unfolding listedRank
-asked-rank c side rank a e y h l = rw (sym e ∙ y, side-known side h, le-leb 1 rank l)
+asked-rank c side rank a e y l = rw (sym e ∙ y, le-leb 1 rank l)
 
 -- a row of a side
 pub no-such : (base n rank : ℕ) (w : List ℕ) (x : RowRead) → x ≡ rowRefused 4 → n < rank → x ≡ rowOfSide base n rank w
@@ -91,7 +100,7 @@ pub read-unasked : (c side rank : ℕ) (t : List ℕ) (a : Bool) (x : RowRead) �
 unfolding readRow readAnswer first
 read-unasked c side rank t a x e n h = h ∙ rw (sym e ∙ n)
 
-no-book-read : (c side rank : ℕ) (t : List ℕ) → asked c side rank ≡ true → (p : Slot) → placeIn c t ≡ p → noBook p ≡ true → rowRefused 4 ≡ readRow c side rank t
+pub no-book-read : (c side rank : ℕ) (t : List ℕ) → asked c side rank ≡ true → (p : Slot) → placeIn c t ≡ p → noBook p ≡ true → rowRefused 4 ≡ readRow c side rank t
 unfolding readRow readAnswer first
 no-book-read c side rank t a p e n = rw (a, e, n)
 
@@ -118,7 +127,7 @@ side-read base n rank w h low high =
     go (yes a) = rw (lt-ltb n rank a)
     go (no a) = rw (le-ltb n rank (omega arith), getD-take n (rowsFrom base w) (rank - 1) noRow (omega arith), row-is base w (rank - 1) (omega arith))
 
-held-row : (c side rank k : ℕ) (t : List ℕ) → asked c side rank ≡ true → 1 ≤ rank → rank ≤ depth → placeIn c t ≡ Held k → (y : Bool) → sound (block k t) ≡ y → (b : Bool) → eqb side 0 ≡ b
+pub held-row : (c side rank k : ℕ) (t : List ℕ) → asked c side rank ≡ true → 1 ≤ rank → rank ≤ depth → placeIn c t ≡ Held k → (y : Bool) → sound (block k t) ≡ y → (b : Bool) → eqb side 0 ≡ b
     → readRow c side rank t ≡ rowOfBook side rank (block k t)
 unfolding readRow readAnswer rowOfBook noBook table.unsoundAt table.valueAt first
 held-row c side rank k t a low high e false ey b eb = rw (a, e, ey)
@@ -149,7 +158,9 @@ read-held c side rank k t a f x ea y ef h q =
 
 pub ruleset showing = (
   turning,
-  asked-code,
+  side-no-code,
+  side-other,
+  side-either,
   asked-side,
   asked-zero,
   asked-rank,

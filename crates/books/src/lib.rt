@@ -1,4 +1,4 @@
-// The lent table of books (document 01, "The book table"): a book message on it, and reading a row out of it.
+// The lent table of books (document 01, "The book table"): a book message on it, and reading a row, or a side's rows, out of it.
 ghost use mathlib.Core.Path.{_≡_};
 ghost use mathlib.Core.Bool.{_&&_};
 ghost use Prim.Native.Nat.{_+_, _-_, _*_, _<_, _≤_};
@@ -11,9 +11,9 @@ ghost use Rattle.ladder.specs.Words.{bookWidth, rowWidth, sideWidth, rowOf};
 ghost use Rattle.wire.specs.Number.{word32};
 ghost use Rattle.books.specs.Table.{books, placeIn, block as blockOf};
 ghost use Rattle.books.specs.Code.Turns.{startRows, startCounts, bookTurn};
-ghost use Rattle.books.specs.Reading.{rowRefused};
-ghost use Rattle.books.specs.Code.Rows.{rowOfSide, rowOfBook};
-ghost use Rattle.books.specs.Contracts.{RowSays};
+ghost use Rattle.books.specs.Reading.{rowRefused, levelOf};
+ghost use Rattle.books.specs.Code.Rows.{rowOfSide, rowOfBook, Priced, sideRefused, sideOfWords, sideOfBook};
+ghost use Rattle.books.specs.Contracts.{RowSays, SideSays};
 use ladder::BOOK_WORDS;
 use ladder::DEPTH;
 use ladder::Row;
@@ -26,6 +26,21 @@ pub struct RowRead {
     pub price: i64,
     pub quantity: u64,
     pub orders: u64,
+}
+
+// A row of a side that is read at once, its price signed as sent.
+#[repr(C)]
+pub struct Level {
+    pub price: i64,
+    pub quantity: u64,
+    pub orders: u64,
+}
+
+// What reading a side gives: the answer, and with answer 0 how many rows there are, and the rows, best first. Behind the count all is 0.
+pub struct SideRead {
+    pub answer: u64,
+    pub count: u64,
+    pub rows: [Level; DEPTH],
 }
 
 // Whether a slot can be worked on: a code's own book has to be sound, and of a free slot nothing is asked.
@@ -164,14 +179,24 @@ fn no_row(answer: u64) -> RowRead
     }
 }
 
-// Whether code, side and rank are listed.
-fn is_asked(code: u64, side: u64, rank: u64) -> bool
-    ensures { λ r. ⌜ r ≡ (listedCode code && listedSide side && listedRank rank) ⌝ }
+// Whether code and side are listed.
+fn is_side_asked(code: u64, side: u64) -> bool
+    ensures { λ r. ⌜ r ≡ (listedCode code && listedSide side) ⌝ }
 {
     if is_code(code) {
         if ladder::OFFER < side {
             return false;
         }
+        return true;
+    }
+    false
+}
+
+// Whether code, side and rank are listed.
+fn is_asked(code: u64, side: u64, rank: u64) -> bool
+    ensures { λ r. ⌜ r ≡ (listedCode code && listedSide side && listedRank rank) ⌝ }
+{
+    if is_side_asked(code, side) {
         if rank < 1 {
             return false;
         }
@@ -240,4 +265,86 @@ pub fn read_row(table: &[u64], code: u64, side: u64, rank: u64) -> RowRead
         return row_in_slot(table, k, side, rank);
     }
     no_row(15)
+}
+
+// The row that a single read gave.
+fn level_of(row: RowRead) -> Level
+    ensures { λ r. ⌜ r ≡ levelOf row ⌝ }
+{
+    Level {
+        price: row.price,
+        quantity: row.quantity,
+        orders: row.orders,
+    }
+}
+
+// What reading a side gives with any answer but 0.
+fn no_side(answer: u64) -> SideRead
+    ensures { λ r. ⌜ r ≡ sideRefused answer ⌝ }
+{
+    let none = level_of(no_row(answer));
+    let rows = [none; DEPTH];
+    SideRead {
+        answer,
+        count: 0,
+        rows,
+    }
+}
+
+// The rows of a side of n rows that begins at a word.
+fn rows_of_side(words: &[u64], base: usize, n: u64) -> SideRead
+    requires { ⌜ (base + sideWidth ≤ length (now words)) × (n ≤ depth) × Priced base n (now words) ⌝ }
+    ensures { λ r. ⌜ r ≡ sideOfWords base n (now (words .entry)) ⌝ }
+{
+    let none = level_of(no_row(0));
+    let mut rows = [none; DEPTH];
+    let mut k = 0;
+    while k < DEPTH {
+        let row = row_of_side(words, base, n, k as u64 + 1);
+        rows[k] = level_of(row);
+        k += 1;
+    }
+    SideRead {
+        answer: 0,
+        count: n,
+        rows,
+    }
+}
+
+// The rows of a side of the book in a slot's words: 18 where the book is not sound.
+fn side_of_book(words: &[u64], side: u64) -> SideRead
+    requires { ⌜ length (now words) ≡ bookWidth ⌝ }
+    ensures { λ r. ⌜ r ≡ sideOfBook side (now (words .entry)) ⌝ }
+{
+    if ladder::is_sound(words) {
+        if side == ladder::BID {
+            return rows_of_side(words, ladder::BIDS_AT, words[ladder::BID_COUNT_AT]);
+        }
+        return rows_of_side(words, ladder::OFFERS_AT, words[ladder::OFFER_COUNT_AT]);
+    }
+    no_side(18)
+}
+
+// The rows of a side of the book in slot k of the table.
+fn side_in_slot(table: &[u64], k: usize, side: u64) -> SideRead
+    requires { ⌜ k < countIn books (length (now table)) ⌝ }
+    ensures { λ r. ⌜ r ≡ sideOfBook side (blockOf k (now (table .entry))) ⌝ }
+{
+    let a = BOOK_WORDS * k;
+    let b = a + BOOK_WORDS;
+    side_of_book(&table[a..b], side)
+}
+
+// The rows of a side at once, by code and side: 15, 4, 18 or 0, in that order. It writes nothing.
+pub fn read_side(table: &[u64], code: u64, side: u64) -> SideRead
+    ensures { λ r. ⌜ SideSays (now (table .entry)) code side r ⌝ }
+{
+    if is_side_asked(code, side) {
+        let slot = slots::find(table, MOST, BOOK_WORDS, code);
+        let Slot::Held(k) = slot else {
+            return no_side(4);
+        };
+        return side_in_slot(table, k, side);
+    }
+    no_side(15)
 }

@@ -11,6 +11,7 @@ use Rattle.screen.proofs.mmdh_arrive_cut.Reads as arrive-cut
 use Rattle.screen.proofs.mmdh_badge.Reads as badge
 use Rattle.screen.proofs.mmdh_why.Reads as why
 use Rattle.screen.proofs.mmdh_read_row.Reads as read-row
+use Rattle.screen.proofs.mmdh_read_side.Reads as read-side
 
 -- nothing is asked of who calls
 pub new-asks : (κs : _) (a : _) → new.Asked κs a
@@ -33,6 +34,9 @@ why-asks κs a = tt
 
 pub read-row-asks : (κs : _) (a : _) → read-row.Asked κs a
 read-row-asks κs a = tt
+
+pub read-side-asks : (κs : _) (a : _) → read-side.Asked κs a
+read-side-asks κs a = tt
 
 -- two outcomes are one: the numbers handed back, and where a table is lent every word of it
 pub new-one : (κs : _) (a : _) (r r′ : _) (x x′ : _) → new.Learnt κs a r x → new.Learnt κs a r′ x′ → r ≡ r′
@@ -57,3 +61,6 @@ why-one κs a r r′ x x′ p q = p ∙ sym q
 
 pub read-row-one : (κs : _) (a : _) (r r′ : _) (x x′ : _) → read-row.Learnt κs a r x → read-row.Learnt κs a r′ x′ → r ≡ r′
 read-row-one κs a r r′ x x′ p q = p ∙ sym q
+
+pub read-side-one : (κs : _) (a : _) (r r′ : _) (x x′ : _) → read-side.Learnt κs a r x → read-side.Learnt κs a r′ x′ → r ≡ r′
+read-side-one κs a r r′ x x′ p q = p ∙ sym q

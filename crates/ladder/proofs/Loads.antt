@@ -47,7 +47,7 @@ pub load-starts : (base : ℕ) (w : List ℕ) (r : Row) → base + sideWidth ≤
 load-starts base w r h = record { room = h; filled = fill-none (rowsFrom base w) (r ∷ r ∷ r ∷ r ∷ r ∷ r ∷ r ∷ r ∷ r ∷ r ∷ []) (rows-ten base w) refl }
 
 pub load-goes : (base : ℕ) (w : List ℕ) (rows : List Row) (i m : ℕ) (r : Row) → Loading base w rows i → i < m → m ≤ depth → r ≡ rowOf (drop (base + rowWidth * i) w) → Loading base w (set rows i r) (i + 1)
-load-goes base w rows i m r p h k e = record { room = p .room; filled = fill-one (rowsFrom base w) rows i r (p .filled) (omega arith) (e ∙ sym (row-is base w i (omega arith))) }
+load-goes base w rows i m r p h k e = record { room = p .room; filled = fill-one noRow (rowsFrom base w) rows i r (p .filled) (omega arith) (e ∙ sym (row-is base w i (omega arith))) }
 
 pub load-ends : (base : ℕ) (w : List ℕ) (rows : List Row) (i : ℕ) → Loading base w rows i → depth ≤ i → rows ≡ rowsFrom base w
 load-ends base w rows i p h = fill-all (rowsFrom base w) rows i (p .filled) h

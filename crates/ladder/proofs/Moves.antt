@@ -110,7 +110,7 @@ put-goes at row rows next above s r i p h es er = record {
   place = p .place;
   ten = p .ten;
   over = rw (add-one i);
-  filled = fill-one (newRows (at + 1) row rows) next i r (p .filled) h (er ∙ (λ j. cond (ltb at i) (p .over j) (es j)) ∙ new-at rows (p .ten) at row i (p .place) h);
+  filled = fill-one noRow (newRows (at + 1) row rows) next i r (p .filled) h (er ∙ (λ j. cond (ltb at i) (p .over j) (es j)) ∙ new-at rows (p .ten) at row i (p .place) h);
 }
 
 pub put-ends : (at : ℕ) (row : Row) (rows next : List Row) (above : Row) (i : ℕ) → Putting at row rows next above i → depth ≤ i → next ≡ newRows (at + 1) row rows
@@ -126,7 +126,7 @@ set-starts at row rows t = record { ten = t; filled = fill-none (set rows at row
 
 pub set-goes : (at : ℕ) (row : Row) (rows next : List Row) (r : Row) (i : ℕ) → Setting at row rows next i → i < depth
     → r ≡ cond (eqb i at) row (getD rows i noRow) → Setting at row rows (set next i r) (i + 1)
-set-goes at row rows next r i p h e = record { ten = p .ten; filled = fill-one (set rows at row) next i r (p .filled) h (e ∙ set-one rows (p .ten) at row i h) }
+set-goes at row rows next r i p h e = record { ten = p .ten; filled = fill-one noRow (set rows at row) next i r (p .filled) h (e ∙ set-one rows (p .ten) at row i h) }
 
 pub set-ends : (at : ℕ) (row : Row) (rows next : List Row) (i : ℕ) → Setting at row rows next i → depth ≤ i → next ≡ set rows at row
 set-ends at row rows next i p h = fill-all (set rows at row) next i (p .filled) h
@@ -147,7 +147,7 @@ drop-goes at rows next r i p h e = record {
   place = p .place;
   under = omega arith;
   ten = p .ten;
-  filled = fill-one (deleteRows (at + 1) rows ++ (noRow ∷ [])) next i r (p .filled) (omega arith) (e ∙ gone-at rows (p .ten) at i (p .place) h);
+  filled = fill-one noRow (deleteRows (at + 1) rows ++ (noRow ∷ [])) next i r (p .filled) (omega arith) (e ∙ gone-at rows (p .ten) at i (p .place) h);
 }
 
 pub drop-ends : (at : ℕ) (rows next : List Row) (z : Row) (i : ℕ) → Dropping at rows next i → 9 ≤ i → z ≡ noRow → set next 9 z ≡ deleteRows (at + 1) rows ++ (noRow ∷ [])
@@ -155,7 +155,7 @@ drop-ends at rows next z i p h e =
     let n : 9 ≡ i = omega (arith, p .under) in
     let want : List Row = deleteRows (at + 1) rows ++ (noRow ∷ []) in
     fill-all want (set next 9 z) depth
-    (fill-one want next 9 z (rw n (p .filled)) (omega arith) (e ∙ sym (gone-last rows (p .ten) at (p .place)))) (omega arith)
+    (fill-one noRow want next 9 z (rw n (p .filled)) (omega arith) (e ∙ sym (gone-last rows (p .ten) at (p .place)))) (omega arith)
 
 -- ten rows after an entry, by its action
 pub after-new : (e : Entry) (rows r : List Row) → (1 ≤ e .level) × (e .level ≤ depth) → e .action ≡ 0 → r ≡ newRows (e .level - 1 + 1) (e .row) rows → r ≡ tenAfter e rows

@@ -95,11 +95,11 @@ unfolding ladder-Words.rowsFrom ladder-Words.noRows ladder-Words.sideWords ladde
 ladder-words = 0
 
 unfoldable books-code-rows : ℕ
-unfolding books-Code-Rows.rowOfSide books-Code-Rows.rowOfBook
+unfolding books-Code-Rows.rowOfSide books-Code-Rows.rowOfBook books-Code-Rows.sideOfWords books-Code-Rows.sideOfBook
 books-code-rows = 0
 
 unfoldable books-reading : ℕ
-unfolding books-Reading.noBook books-Reading.readAnswer books-Reading.readRow
+unfolding books-Reading.noBook books-Reading.readAnswer books-Reading.readRow books-Reading.sideAnswer books-Reading.readsFrom books-Reading.rowCount books-Reading.sideBy books-Reading.readSide
 books-reading = 0
 
 unfoldable books-table : ℕ
@@ -147,7 +147,7 @@ unfolding promises-Build.bytes promises-Build.joined promises-Build.header promi
 promises-build = 0
 
 unfoldable promises-checks : ℕ
-unfolding promises-Checks.wrong promises-Checks.sameWords promises-Checks.sameFeed promises-Checks.sameGiven promises-Checks.sameBadges promises-Checks.sameEnd promises-Checks.runs promises-Checks.sameNumber promises-Checks.reads
+unfolding promises-Checks.wrong promises-Checks.sameWords promises-Checks.sameFeed promises-Checks.sameGiven promises-Checks.sameBadges promises-Checks.sameEnd promises-Checks.runs promises-Checks.sameNumber promises-Checks.reads promises-Checks.sameLevels promises-Checks.readsSide
 promises-checks = 0
 
 unfoldable promises-decisions : ℕ
@@ -211,7 +211,7 @@ unfolding promises-Statuses.freshly promises-Statuses.resumed promises-Statuses.
 promises-statuses = 0
 
 unfoldable promises-tables : ℕ
-unfolding promises-Tables.on promises-Tables.refused promises-Tables.firstBid promises-Tables.opened promises-Tables.wipes promises-Tables.other promises-Tables.lengths promises-Tables.slots promises-Tables.three promises-Tables.tenOffers promises-Tables.sounds promises-Tables.row-is promises-Tables.no-row promises-Tables.rows
+unfolding promises-Tables.on promises-Tables.refused promises-Tables.firstBid promises-Tables.opened promises-Tables.wipes promises-Tables.other promises-Tables.lengths promises-Tables.slots promises-Tables.three promises-Tables.tenOffers promises-Tables.sounds promises-Tables.row-is promises-Tables.no-row promises-Tables.level promises-Tables.tenRows promises-Tables.tenLevels promises-Tables.side-is promises-Tables.rows
 promises-tables = 0
 
 unfoldable promises-traps : ℕ

@@ -10,6 +10,7 @@ use Rattle.feed.proofs.Feed.arrive_cut.Reads as arrive-cut
 use Rattle.feed.proofs.Feed.badge.Reads as badge
 use Rattle.feed.proofs.Feed.why.Reads as why
 use Rattle.books.proofs.read_row.Reads as read-row
+use Rattle.books.proofs.read_side.Reads as read-side
 use Rattle.promises.specs.Runs.{zeroed}
 
 -- nothing is asked of who calls
@@ -34,6 +35,9 @@ why-asks κs a = tt
 pub read-row-asks : (κs : _) (a : _) → read-row.Asked κs a
 read-row-asks κs a = tt
 
+pub read-side-asks : (κs : _) (a : _) → read-side.Asked κs a
+read-side-asks κs a = tt
+
 -- two outcomes are one: what is handed back, and where a table is lent every word of it
 pub new-one : (κs : _) (a : _) (r r′ : _) (x x′ : _) → new.Learnt κs a r x → new.Learnt κs a r′ x′ → r ≡ r′
 new-one κs a r r′ x x′ p q = p ∙ sym q
@@ -55,3 +59,6 @@ why-one κs a r r′ x x′ p q = p ∙ sym q
 
 pub read-row-one : (κs : _) (a : _) (r r′ : _) (x x′ : _) → read-row.Learnt κs a r x → read-row.Learnt κs a r′ x′ → r ≡ r′
 read-row-one κs a r r′ x x′ p q = p ∙ sym q
+
+pub read-side-one : (κs : _) (a : _) (r r′ : _) (x x′ : _) → read-side.Learnt κs a r x → read-side.Learnt κs a r′ x′ → r ≡ r′
+read-side-one κs a r r′ x x′ p q = p ∙ sym q

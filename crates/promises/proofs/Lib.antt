@@ -16,3 +16,4 @@ pub mod Pieces
 pub mod Contracts
 pub mod Why
 pub mod Ends
+pub mod Sides

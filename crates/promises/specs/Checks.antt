@@ -5,8 +5,10 @@ use mathlib.Core.Bool.{Bool, true, false, cond, _&&_, Bool·beq}
 use mathlib.Core.List.{List, [], _∷_}
 use lib.IntN.{ℤ, pos, negsuc}
 use lib.Dec.{eqb}
-use Rattle.books.specs.Reading.{readRow}
+use Rattle.books.specs.Reading.{readRow, readSide}
+use Rattle.books.specs.declared.Level.{Level}
 use Rattle.books.specs.declared.RowRead.{RowRead}
+use Rattle.books.specs.declared.SideRead.{SideRead}
 use Rattle.feed.specs.Feeds.{phaseNo, badgeNo, badgeOf}
 use Rattle.feed.specs.Events.{State, Event}
 use Rattle.feed.specs.Steps.{Outcome, outcome}
@@ -76,3 +78,15 @@ unfoldable pub reads : List ℕ → ℕ → ℕ → ℕ → RowRead → Bool
 reads t c side rank told =
     let r : RowRead = readRow c side rank t in
     eqb (r .answer) (told .answer) && sameNumber (r .price) (told .price) && eqb (r .quantity) (told .quantity) && eqb (r .orders) (told .orders)
+
+-- a side read out of a table, all its ten rows
+unfoldable pub sameLevels : List Level → List Level → Bool
+sameLevels [] [] = true
+sameLevels [] (y ∷ ys) = false
+sameLevels (x ∷ xs) [] = false
+sameLevels (x ∷ xs) (y ∷ ys) = sameNumber (x .price) (y .price) && eqb (x .quantity) (y .quantity) && eqb (x .orders) (y .orders) && sameLevels xs ys
+
+unfoldable pub readsSide : List ℕ → ℕ → ℕ → SideRead → Bool
+readsSide t c side told =
+    let s : SideRead = readSide c side t in
+    eqb (s .answer) (told .answer) && eqb (s .count) (told .count) && sameLevels (s .rows) (told .rows)

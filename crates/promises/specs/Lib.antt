@@ -21,3 +21,4 @@ pub mod Leaves
 pub mod Decisions
 pub mod Pieces
 pub mod Why
+pub mod Sides

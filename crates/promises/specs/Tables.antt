@@ -2,13 +2,15 @@
 use Prim.Native.Nat.{ℕ, zero, suc, _+_, _*_}
 use Prim.Native.String.{String}
 use mathlib.Core.List.{List, [], _∷_, _++_}
-use lib.ListN.{take, replicate, set}
+use lib.ListN.{length, take, replicate, set}
 use lib.IntN.{ℤ, pos, negsuc}
 use lib.Dec.{eqb}
 use Rattle.slots.specs.Layout.{countIn}
 use Rattle.books.specs.Table.{books}
 use Rattle.feed.specs.declared.Phase.the-variants.{WaitLogon, Live}
-use Rattle.promises.specs.Checks.{Check, reads}
+use Rattle.books.specs.declared.Level.{Level}
+use Rattle.promises.specs.Sides.{noLevel}
+use Rattle.promises.specs.Checks.{Check, reads, readsSide}
 use Rattle.promises.specs.Build.{unit, logon, entry, bookMessage, row, block, arrives}
 use Rattle.promises.specs.Answering.{oneCall, fed, spoilt, heard, held, both, fits}
 use Rattle.promises.specs.Desk.{tenRows}
@@ -124,6 +126,22 @@ unfoldable pub no-row : String → List ℕ → ℕ → ℕ → ℕ → ℕ → 
 no-row name t c side rank answer =
     record { name = name; holds = reads t c side rank (record { answer = answer; price = pos 0; quantity = 0; orders = 0 }) }
 
+-- a side that is read at once: its rows, and zeros behind them
+unfoldable pub level : ℤ → ℕ → ℕ → Level
+level price quantity orders = record { price = price; quantity = quantity; orders = orders }
+
+unfoldable pub tenRows : List (List ℕ)
+tenRows = row 10 1 1 ∷ row 9 2 1 ∷ row 8 3 1 ∷ row 7 4 1 ∷ row 6 5 1 ∷ row 5 6 1 ∷ row 4 7 1 ∷ row 3 8 1 ∷ row 2 9 1 ∷ row 1 10 1 ∷ []
+
+unfoldable pub tenLevels : List Level
+tenLevels =
+    level (pos 10) 1 1 ∷ level (pos 9) 2 1 ∷ level (pos 8) 3 1 ∷ level (pos 7) 4 1 ∷ level (pos 6) 5 1 ∷ level (pos 5) 6 1
+    ∷ level (pos 4) 7 1 ∷ level (pos 3) 8 1 ∷ level (pos 2) 9 1 ∷ level (pos 1) 10 1 ∷ []
+
+unfoldable pub side-is : String → List ℕ → ℕ → ℕ → ℕ → List Level → Check
+side-is name t c side answer told =
+    record { name = name; holds = readsSide t c side (record { answer = answer; count = length told; rows = take 10 (told ++ replicate 10 noLevel) }) }
+
 unfoldable pub rows : List Check
 rows =
     row-is "the best bid" three 700 0 1 (pos 30) 1 1
@@ -151,4 +169,21 @@ rows =
     ∷ no-row "4: no such bid" three 700 0 4 4
     ∷ no-row "4: no such offer" three 700 1 3 4
     ∷ no-row "4: an empty book" (block 700 [] []) 700 0 1 4
+    ∷ side-is "all bids" three 700 0 0 (level (pos 30) 1 1 ∷ level (pos 20) 1 1 ∷ level (pos 10) 1 1 ∷ [])
+    ∷ side-is "all offers" three 700 1 0 (level (pos 5) 1 1 ∷ level (pos 6) 1 1 ∷ [])
+    ∷ side-is "a side with the lowest and the highest price" (block 700 [] ((0 ∷ 8 ∷ 9 ∷ []) ∷ (4294967295 ∷ 18446744073709551615 ∷ 4294967295 ∷ []) ∷ [])) 700 1 0
+    (level (negsuc 2147483647) 8 9 ∷ level (pos 2147483647) 18446744073709551615 4294967295 ∷ [])
+    ∷ side-is "ten bids" (block 700 tenRows []) 700 0 0 tenLevels
+    ∷ side-is "an empty side" held 700 1 0 []
+    ∷ side-is "an empty book's side" (block 700 [] []) 700 0 0 []
+    ∷ side-is "a side in the second slot" (other ++ held) 700 0 0 (level (pos 9730) 4000 2 ∷ [])
+    ∷ side-is "a side, the code twice: the lowest" (held ++ block 700 (row 1 1 1 ∷ []) []) 700 0 0 (level (pos 9730) 4000 2 ∷ [])
+    ∷ side-is "a side, 15: code 0" three 0 0 15 []
+    ∷ side-is "a side, 15: code 100,000, though a slot has it" (block 100000 (row 1 1 1 ∷ []) []) 100000 0 15 []
+    ∷ side-is "a side, 15: side 2" three 700 2 15 []
+    ∷ side-is "a side, 15 before 4" three 701 2 15 []
+    ∷ side-is "a side, 4: no book, a slot free" (three ++ replicate 64 0) 701 0 4 []
+    ∷ side-is "a side, 4: no book, none free" three 701 1 4 []
+    ∷ side-is "a side, 18" (set three 3 1) 700 0 18 []
+    ∷ side-is "a side, 18 by the other one" (set three 40 1) 700 0 18 []
     ∷ []

@@ -13,10 +13,12 @@ use Rattle.feed.specs.declared.Link.{Link}
 use Rattle.feed.specs.declared.Link.the-variants.{Fresh, Resuming}
 use Rattle.feed.specs.declared.Feed.{Feed}
 use Rattle.feed.specs.declared.Given.{Given}
-use Rattle.screen.specs.Plain.{yes, bit, linkOf, feedOf, plainFeed, plainGiven, plainOut, plainOutcome, plainRow}
+use Rattle.screen.specs.Plain.{yes, bit, linkOf, feedOf, plainFeed, plainGiven, plainOut, plainOutcome, plainRow, plainSide}
 use Rattle.screen.specs.Calls.{handsBack, Connects}
 use Rattle.books.specs.declared.RowRead.{RowRead}
+use Rattle.books.specs.declared.SideRead.{SideRead}
 use Rattle.screen.specs.declared.MmdhRow.{MmdhRow}
+use Rattle.screen.specs.declared.MmdhSide.{MmdhSide}
 use Rattle.screen.specs.declared.MmdhFeed.{MmdhFeed}
 use Rattle.screen.specs.declared.MmdhGiven.{MmdhGiven}
 
@@ -70,4 +72,7 @@ arrive-plain c f t u e g r a q h = rw (h, ← a) (ap plainOutcome q)
 pub row-plain : (x r : RowRead) → r ≡ x → _≡_ {A = MmdhRow} (record { answer = r .answer; price = r .price; quantity = r .quantity; orders = r .orders }) (plainRow x)
 row-plain x r e = ap plainRow e
 
-pub ruleset cases = (needs, not-yes, is-yes, bit-one, bit-none, link-fresh, link-resuming, as-feed, as-plain, as-given, new-plain, connect-plain, arrive-plain, row-plain)
+pub side-plain : (x r : SideRead) → r ≡ x → _≡_ {A = MmdhSide} (record { answer = r .answer; count = r .count; row = r .rows }) (plainSide x)
+side-plain x r e = ap plainSide e
+
+pub ruleset cases = (needs, not-yes, is-yes, bit-one, bit-none, link-fresh, link-resuming, as-feed, as-plain, as-given, new-plain, connect-plain, arrive-plain, row-plain, side-plain)

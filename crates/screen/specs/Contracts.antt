@@ -2,14 +2,15 @@
 use Prim.Native.Nat.{ℕ}
 use mathlib.Core.Path.{_≡_}
 use mathlib.Core.List.{List}
-use Rattle.books.specs.Reading.{readRow}
+use Rattle.books.specs.Reading.{readRow, readSide}
 use Rattle.feed.specs.Feeds.{newGiven, plainBadge}
 use Rattle.feed.specs.Reasons.{plainWhy}
-use Rattle.screen.specs.Plain.{plainGiven, plainOut, plainRow}
+use Rattle.screen.specs.Plain.{plainGiven, plainOut, plainRow, plainSide}
 use Rattle.screen.specs.Calls.{Connects, Arrives, ArrivesCut, handsBack}
 use Rattle.screen.specs.declared.MmdhFeed.{MmdhFeed}
 use Rattle.screen.specs.declared.MmdhGiven.{MmdhGiven}
 use Rattle.screen.specs.declared.MmdhRow.{MmdhRow}
+use Rattle.screen.specs.declared.MmdhSide.{MmdhSide}
 
 -- mmdh_new
 abbrev pub NewSays : ℕ → MmdhGiven → Type 0
@@ -37,3 +38,7 @@ WhySays phase heard limit time r = r ≡ plainWhy phase heard limit time
 -- mmdh_read_row
 abbrev pub RowSays : List ℕ → ℕ → ℕ → ℕ → MmdhRow → Type 0
 RowSays t code side rank r = r ≡ plainRow (readRow code side rank t)
+
+-- mmdh_read_side
+abbrev pub SideSays : List ℕ → ℕ → ℕ → MmdhSide → Type 0
+SideSays t code side r = r ≡ plainSide (readSide code side t)

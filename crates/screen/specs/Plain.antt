@@ -4,6 +4,7 @@ use mathlib.Core.Bool.{Bool, cond, not}
 use mathlib.Core.List.{List}
 use lib.Dec.{eqb}
 use Rattle.books.specs.declared.RowRead.{RowRead}
+use Rattle.books.specs.declared.SideRead.{SideRead}
 use Rattle.feed.specs.Feeds.{phaseNo, phaseOf}
 use Rattle.feed.specs.Steps.{Outcome}
 use Rattle.feed.specs.declared.Link.{Link}
@@ -13,6 +14,7 @@ use Rattle.feed.specs.declared.Given.{Given}
 use Rattle.screen.specs.declared.MmdhFeed.{MmdhFeed}
 use Rattle.screen.specs.declared.MmdhGiven.{MmdhGiven}
 use Rattle.screen.specs.declared.MmdhRow.{MmdhRow}
+use Rattle.screen.specs.declared.MmdhSide.{MmdhSide}
 
 -- 0 is no, anything else yes; and back as 0 or 1
 unfoldable pub yes : ℕ → Bool
@@ -64,3 +66,6 @@ plainOutcome o = record { given = plainGiven (o .given); books = o .tables .book
 
 abbrev pub plainRow : RowRead → MmdhRow
 plainRow r = record { answer = r .answer; price = r .price; quantity = r .quantity; orders = r .orders }
+
+abbrev pub plainSide : SideRead → MmdhSide
+plainSide s = record { answer = s .answer; count = s .count; row = s .rows }

@@ -1,11 +1,13 @@
 // The library by plain C calls, for the screens: numbers, structs of numbers by value, and slices as pointer and length.
 ghost use mathlib.Core.Path.{_≡_};
-ghost use Rattle.screen.specs.Contracts.{NewSays, ConnectSays, ArriveSays, CutSays, BadgeSays, WhySays, RowSays};
+ghost use Rattle.screen.specs.Contracts.{NewSays, ConnectSays, ArriveSays, CutSays, BadgeSays, WhySays, RowSays, SideSays};
 ghost use Rattle.screen.specs.Plain.{yes, bit, linkOf, feedOf, plainFeed, plainGiven};
+use books::Level;
 use books::RowRead;
 use feed::Feed;
 use feed::Given;
 use feed::Link;
+use ladder::DEPTH;
 
 // A feed as numbers: the phase from 0 to 6 in document 01's order, and whole and fresh as 0 (no) or anything else (yes).
 #[repr(C)]
@@ -34,6 +36,14 @@ pub struct MmdhRow {
     pub price: i64,
     pub quantity: u64,
     pub orders: u64,
+}
+
+// What reading a side gives: the answer, how many rows, and the rows, best first.
+#[repr(C)]
+pub struct MmdhSide {
+    pub answer: u64,
+    pub count: u64,
+    pub row: [Level; DEPTH],
 }
 
 // A number as yes or no.
@@ -171,6 +181,20 @@ pub extern "C" fn mmdh_read_row(table: &[u64], code: u64, side: u64, rank: u64) 
         price: row.price,
         quantity: row.quantity,
         orders: row.orders,
+    }
+}
+
+// All rows of a side at once, by code and side.
+#[no_mangle]
+pub extern "C" fn mmdh_read_side(table: &[u64], code: u64, side: u64) -> MmdhSide
+    ensures { λ r. ⌜ SideSays (now (table .entry)) code side r ⌝ }
+{
+    let read = books::read_side(table, code, side);
+    let row = read.rows;
+    MmdhSide {
+        answer: read.answer,
+        count: read.count,
+        row,
     }
 }
 

@@ -3,4 +3,10 @@ use Rattle.books.proofs.is_asked.Statement.{statement}
 use Rattle.books.proofs.is_asked.Tie as tie
 
 pub is-asked-spec : {M : Type 1} → statement M
-is-asked-spec = tie.close (tie.spec (λ c κs. search showing) (λ c. search showing) (λ c. search showing) (λ c. search showing) (λ c. search showing))
+is-asked-spec =
+    tie.close
+    (tie.spec
+    (λ c κs. search showing)
+    (λ c. search showing)
+    (λ c. search showing)
+    (λ c. search showing))
