@@ -211,7 +211,7 @@ unfolding promises-Statuses.freshly promises-Statuses.resumed promises-Statuses.
 promises-statuses = 0
 
 unfoldable promises-tables : ℕ
-unfolding promises-Tables.on promises-Tables.refused promises-Tables.firstBid promises-Tables.opened promises-Tables.wipes promises-Tables.other promises-Tables.lengths promises-Tables.slots promises-Tables.three promises-Tables.tenOffers promises-Tables.sounds promises-Tables.row-is promises-Tables.no-row promises-Tables.level promises-Tables.tenRows promises-Tables.tenLevels promises-Tables.side-is promises-Tables.rows
+unfolding promises-Tables.on promises-Tables.refused promises-Tables.firstBid promises-Tables.opened promises-Tables.wipes promises-Tables.other promises-Tables.lengths promises-Tables.slots promises-Tables.three promises-Tables.tenOffers promises-Tables.sounds promises-Tables.row-is promises-Tables.no-row promises-Tables.level promises-Tables.tenBids promises-Tables.tenLevels promises-Tables.side-is promises-Tables.rows
 promises-tables = 0
 
 unfoldable promises-traps : ℕ

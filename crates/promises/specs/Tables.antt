@@ -130,8 +130,8 @@ no-row name t c side rank answer =
 unfoldable pub level : ℤ → ℕ → ℕ → Level
 level price quantity orders = record { price = price; quantity = quantity; orders = orders }
 
-unfoldable pub tenRows : List (List ℕ)
-tenRows = row 10 1 1 ∷ row 9 2 1 ∷ row 8 3 1 ∷ row 7 4 1 ∷ row 6 5 1 ∷ row 5 6 1 ∷ row 4 7 1 ∷ row 3 8 1 ∷ row 2 9 1 ∷ row 1 10 1 ∷ []
+unfoldable pub tenBids : List (List ℕ)
+tenBids = row 10 1 1 ∷ row 9 2 1 ∷ row 8 3 1 ∷ row 7 4 1 ∷ row 6 5 1 ∷ row 5 6 1 ∷ row 4 7 1 ∷ row 3 8 1 ∷ row 2 9 1 ∷ row 1 10 1 ∷ []
 
 unfoldable pub tenLevels : List Level
 tenLevels =
@@ -173,7 +173,7 @@ rows =
     ∷ side-is "all offers" three 700 1 0 (level (pos 5) 1 1 ∷ level (pos 6) 1 1 ∷ [])
     ∷ side-is "a side with the lowest and the highest price" (block 700 [] ((0 ∷ 8 ∷ 9 ∷ []) ∷ (4294967295 ∷ 18446744073709551615 ∷ 4294967295 ∷ []) ∷ [])) 700 1 0
     (level (negsuc 2147483647) 8 9 ∷ level (pos 2147483647) 18446744073709551615 4294967295 ∷ [])
-    ∷ side-is "ten bids" (block 700 tenRows []) 700 0 0 tenLevels
+    ∷ side-is "ten bids" (block 700 tenBids []) 700 0 0 tenLevels
     ∷ side-is "an empty side" held 700 1 0 []
     ∷ side-is "an empty book's side" (block 700 [] []) 700 0 0 []
     ∷ side-is "a side in the second slot" (other ++ held) 700 0 0 (level (pos 9730) 4000 2 ∷ [])
