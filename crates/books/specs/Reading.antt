@@ -54,7 +54,7 @@ unfoldable pub readRow : ℕ → ℕ → ℕ → List ℕ → RowRead
 readRow c side rank t =
     cond (eqb (readAnswer c side rank t) 0) (rowShown (rowAt (sideIn c side t) rank)) (rowRefused (readAnswer c side rank t))
 
--- a side at once: 15 (bad code or side), 4 (no book), 18, else 0
+-- all rows of a side at once, a call of our own: 15 (bad code or side), 4 (no book), 18, else 0
 unfoldable pub sideAnswer : ℕ → ℕ → List ℕ → ℕ
 sideAnswer c side t =
     first

@@ -1,12 +1,13 @@
 -- A side read at once and its rows read one by one (specs/Sides). Assumes nothing.
-use Prim.Native.Nat.{ℕ, _≤_, _<_}
+use Prim.Native.Nat.{ℕ, zero, suc, _+_, _≤_, _<_}
 use native.Mathlib.Omega.{arith}
 use mathlib.Core.Path.{_≡_, refl, sym, ap, _∙_}
 use mathlib.Core.List.{List}
-use borrow.Author.Tests.{lt-ltb, le-ltb}
+use borrow.Author.Tests.{lt-ltb, le-ltb, ne-eqb}
 use Rattle.slots.specs.Layout as table
 use Rattle.books.specs.Table.{books, placeIn}
-use Rattle.books.specs.Reading.{rowRefused, levelOf, sideAnswer, sideBy, readSide}
+use Rattle.books.specs.Reading.{rowRefused, readRow, levelOf, sideAnswer, readsFrom, rowCount, sideBy, readSide}
+use Rattle.ladder.specs.Message.{depth}
 use Rattle.books.specs.Code.Rows.{rowOfSide}
 use Rattle.books.specs.declared.Level.{Level}
 use Rattle.books.specs.declared.RowRead.{RowRead}
@@ -32,6 +33,13 @@ answer-is : (c side : ℕ) (t : List ℕ) → readSide c side t .answer ≡ side
 unfolding readSide sideBy
 answer-is c side t = refl
 
+-- of reads that all have an answer other than 0 none is counted
+none-counted : (f : ℕ → RowRead) (n rank a : ℕ) → (a ≡ 0 → ⊥) → ((k : ℕ) → rank ≤ k → k < rank + n → f k .answer ≡ a) → rowCount (readsFrom f n rank) ≡ 0
+unfolding rowCount readsFrom
+none-counted f zero rank a z h = refl
+none-counted f (suc n) rank a z h =
+    rw (h rank (omega arith) (omega arith), ne-eqb a 0 z, none-counted f n (rank + 1) a z (λ k l u. h k (omega arith) (omega arith)))
+
 module _ (t : List ℕ) (c side rank : ℕ) (s : SideRead) (r : RowRead) (b : Both t c side rank s r) where
   answered : s .answer ≡ sideAnswer c side t
   answered = ap (λ (x : SideRead). x .answer) (b .whole) ∙ answer-is c side t
@@ -47,6 +55,12 @@ module _ (t : List ℕ) (c side rank : ℕ) (s : SideRead) (r : RowRead) (b : Bo
         λ h. q ∙ beyond (o .base) (o .n) rank (o .words) (omega arith),
       )
 
+no-rows : (c side : ℕ) (t : List ℕ) → (sideAnswer c side t ≡ 0 → ⊥) → ((k : ℕ) → 1 ≤ k → k ≤ depth → readRow c side k t ≡ rowRefused (sideAnswer c side t))
+    → readSide c side t .count ≡ 0
+unfolding readSide sideBy
+no-rows c side t z h =
+    none-counted (λ rank. readRow c side rank t) depth 1 (sideAnswer c side t) z (λ k l u. ap (λ (x : RowRead). x .answer) (h k l (omega arith)))
+
 pub sideTells : S.SideTells
 sideTells t c side rank s r b z =
     tells t c side rank s r b
@@ -55,8 +69,7 @@ sideTells t c side rank s r b z =
 pub sideRefuses : S.SideRefuses
 sideRefuses t c side rank s r b n =
     let a : s .answer ≡ sideAnswer c side t = answered t c side rank s r b in
-    let q : r ≡ rowRefused (s .answer) =
-    b .single
-    ∙ alike c side t rank (b .low) (b .high) (sideAsked c side) refl (placeIn c t) refl (table.unsoundAt books (placeIn c t) t) refl (λ z. n (a ∙ z))
-    ∙ ap rowRefused (sym a) in
-    (q, level t c side rank s r b ∙ ap levelOf q)
+    let refused : (k : ℕ) → 1 ≤ k → k ≤ depth → readRow c side k t ≡ rowRefused (sideAnswer c side t) =
+    λ k l u. alike c side t k l u (sideAsked c side) refl (placeIn c t) refl (table.unsoundAt books (placeIn c t) t) refl (λ z. n (a ∙ z)) in
+    let q : r ≡ rowRefused (s .answer) = b .single ∙ refused rank (b .low) (b .high) ∙ ap rowRefused (sym a) in
+    (q, ap (λ (x : SideRead). x .count) (b .whole) ∙ no-rows c side t (λ z. n (a ∙ z)) refused, level t c side rank s r b ∙ ap levelOf q)

@@ -35,8 +35,8 @@ SideTells =
     (t : List ℕ) (code side rank : ℕ) (s : SideRead) (r : RowRead) → Both t code side rank s r → s .answer ≡ 0
     → (rank ≤ s .count → r ≡ shownAt s rank) × (s .count < rank → r ≡ rowRefused 4)
 
--- where it is not, the single read is refused with the same answer, and the side has no rows
+-- where it is not, the single read is refused with the same answer, and the side has no rows: a count of 0, and zeros
 abbrev pub SideRefuses : Type 0
 SideRefuses =
     (t : List ℕ) (code side rank : ℕ) (s : SideRead) (r : RowRead) → Both t code side rank s r → (s .answer ≡ 0 → ⊥)
-    → (r ≡ rowRefused (s .answer)) × (levelAt s rank ≡ noLevel)
+    → (r ≡ rowRefused (s .answer)) × (s .count ≡ 0) × (levelAt s rank ≡ noLevel)
