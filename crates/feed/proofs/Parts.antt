@@ -389,10 +389,10 @@ logon-later Unlisted n f x = refl
 
 -- what clears
 module _ (f : Feed) (m : List ℕ) (s : session.Session) (b : Bool) where
-  pub session-clears-by : (j : session.Session) → s ≡ j → b ≡ clears j m f → b ≡ clears s m f
+  pub session-clears-by : (j : session.Session) → s ≡ j → b ≡ clears j m (f .fresh) → b ≡ clears s m (f .fresh)
   session-clears-by j e h = rw e h
 
-  pub logon-clears : (n : ℕ) (r : Status) → s ≡ Logon → n ≡ field 6 1 m → r ≡ statusOf n → b ≡ clearsOn r (f .fresh) → b ≡ clears s m f
+  pub logon-clears : (n : ℕ) (r : Status) → s ≡ Logon → n ≡ field 6 1 m → r ≡ statusOf n → b ≡ clearsOn r (f .fresh) → b ≡ clears s m (f .fresh)
   unfolding clears
   logon-clears n r e g h l = rw (e, ← g, ← h) l
 

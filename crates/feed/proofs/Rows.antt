@@ -48,28 +48,28 @@ use Rattle.feed.proofs.Laws.{numbered, isTake, alone, left}
 
 -- a session's message that is taken, with any tables
 module _ (f : Feed) (m : List ℕ) (n q i : ℕ) (x : Tables) (s : session.Session) (g : Feed) (k : Session s ≡ kindOf (field 2 2 m)) (a : g ≡ advanced n f) where
-  pub done-key : (y : Feed) → s ≡ SendKey → y ≡ inPhase WaitLogon g → stateOf y (clearedIf (clears s m f) x) ≡ taken n (Message q i m) (stateOf f x)
+  pub done-key : (y : Feed) → s ≡ SendKey → y ≡ inPhase WaitLogon g → stateOf y (clearedIf (clears s m (f .fresh)) x) ≡ taken n (Message q i m) (stateOf f x)
   unfolding taken does counted market onMarket clears
   done-key y e h = rw (← k, e, h, a)
 
   pub done-logon : (y : Feed) (b : ℕ) (r : Status) → s ≡ Logon → b ≡ field 6 1 m → r ≡ statusOf b
-      → ((z : Tables) → stateOf y (clearedIf (clearsOn r (g .fresh)) z) ≡ loggedOn r (stateOf g z)) → stateOf y (clearedIf (clears s m f) x) ≡ taken n (Message q i m) (stateOf f x)
+      → ((z : Tables) → stateOf y (clearedIf (clearsOn r (g .fresh)) z) ≡ loggedOn r (stateOf g z)) → stateOf y (clearedIf (clears s m (f .fresh)) x) ≡ taken n (Message q i m) (stateOf f x)
   unfolding taken does counted market onMarket clears
   done-logon y b r e h l w = rw (← k, e, ← h, ← l) ((rw a at (w x)) ∙ logon-later r n f x)
 
-  pub done-logout : (y : Feed) → s ≡ Logout → y ≡ inPhase Closed g → stateOf y (clearedIf (clears s m f) x) ≡ taken n (Message q i m) (stateOf f x)
+  pub done-logout : (y : Feed) → s ≡ Logout → y ≡ inPhase Closed g → stateOf y (clearedIf (clears s m (f .fresh)) x) ≡ taken n (Message q i m) (stateOf f x)
   unfolding taken does counted market onMarket clears
   done-logout y e h = rw (← k, e, h, a)
 
-  pub done-refresh : s ≡ Refresh → stateOf g (clearedIf (clears s m f) x) ≡ taken n (Message q i m) (stateOf f x)
+  pub done-refresh : s ≡ Refresh → stateOf g (clearedIf (clears s m (f .fresh)) x) ≡ taken n (Message q i m) (stateOf f x)
   unfolding taken does counted market onMarket clears
   done-refresh e = rw (← k, e, a)
 
-  pub done-complete : (y : Feed) (b : ℕ) → s ≡ Complete → b ≡ field 4 4 m → y ≡ enterLive (internalIs b g) → stateOf y (clearedIf (clears s m f) x) ≡ taken n (Message q i m) (stateOf f x)
+  pub done-complete : (y : Feed) (b : ℕ) → s ≡ Complete → b ≡ field 4 4 m → y ≡ enterLive (internalIs b g) → stateOf y (clearedIf (clears s m (f .fresh)) x) ≡ taken n (Message q i m) (stateOf f x)
   unfolding taken does counted market onMarket clears
   done-complete y b e l h = rw (← k, e, h, a, l)
 
-  pub done-request : s ≡ Request → stateOf g (clearedIf (clears s m f) x) ≡ taken n (Message q i m) (stateOf f x)
+  pub done-request : s ≡ Request → stateOf g (clearedIf (clears s m (f .fresh)) x) ≡ taken n (Message q i m) (stateOf f x)
   unfolding taken does counted market onMarket clears
   done-request e = rw (← k, e, a)
 
@@ -90,18 +90,18 @@ books-accept false false false = refl
 
 -- a message that is left to the tables
 module _ (f : Feed) (t m : List ℕ) (n q i : ℕ) (k : Kind) (a : k ≡ kindOf (field 2 2 m)) where
-  module _ (s : session.Session) (c : Bool) (y : Feed) (g : Given) (e : k ≡ Session s) (d : c ≡ clears s m f) where
+  module _ (s : session.Session) (c : Bool) (y : Feed) (g : Given) (e : k ≡ Session s) (d : c ≡ clears s m (f .fresh)) where
     no-tests : first (tableTests (lent t) n (Message q i m)) (Take 0) ≡ Take 0
     unfolding first tableTests onMessage ofBook passed onMarket
     no-tests = rw (← a, e)
 
     pub session-cleared : (u : List ℕ) → c ≡ true → u ≡ clearedIn books t
-        → ((r j : ℕ) (x : Tables) → stateOf y (clearedIf (clears s m f) x) ≡ taken n (Message r j m) (stateOf f x)) → g ≡ answered 0 y
+        → ((r j : ℕ) (x : Tables) → stateOf y (clearedIf (clears s m (f .fresh)) x) ≡ taken n (Message r j m) (stateOf f x)) → g ≡ answered 0 y
         → outOf g (lent u) ≡ onTables (stateOf f (lent t)) (Cut q i m n)
     unfolding onTables handed timeOf news number act usedOf offered
     session-cleared u h v w l = rw (no-tests, ← w q i (lent t), ← d, h, l, v)
 
-    pub session-kept : c ≡ false → ((r j : ℕ) (x : Tables) → stateOf y (clearedIf (clears s m f) x) ≡ taken n (Message r j m) (stateOf f x)) → g ≡ answered 0 y
+    pub session-kept : c ≡ false → ((r j : ℕ) (x : Tables) → stateOf y (clearedIf (clears s m (f .fresh)) x) ≡ taken n (Message r j m) (stateOf f x)) → g ≡ answered 0 y
         → outOf g (lent t) ≡ onTables (stateOf f (lent t)) (Cut q i m n)
     unfolding onTables handed timeOf news number act usedOf offered
     session-kept h w l = rw (no-tests, ← w q i (lent t), ← d, h, l)

@@ -61,13 +61,13 @@ clearsOn Stays fresh = false
 clearsOn Closes fresh = false
 clearsOn Unlisted fresh = false
 
-unfoldable pub clears : session.Session → List ℕ → Feed → Bool
-clears SendKey m f = false
-clears Logon m f = clearsOn (statusOf (logonStatus m)) (f .fresh)
-clears Logout m f = false
-clears Refresh m f = false
-clears Complete m f = false
-clears Request m f = false
+unfoldable pub clears : session.Session → List ℕ → Bool → Bool
+clears SendKey m fresh = false
+clears Logon m fresh = clearsOn (statusOf (logonStatus m)) fresh
+clears Logout m fresh = false
+clears Refresh m fresh = false
+clears Complete m fresh = false
+clears Request m fresh = false
 
 -- the tables after a market message that is taken or passed over at a time
 unfoldable pub tablesAfter : Datum → ℕ → List ℕ → Tables → Tables

@@ -50,7 +50,7 @@ impl Feed {
 
     // Whether a session's message that is taken clears the tables.
     pub(crate) fn is_clearing(self, session: Session, message: &[u8]) -> bool
-        ensures { λ r. ⌜ r ≡ clears session (now (message .entry)) self ⌝ }
+        ensures { λ r. ⌜ r ≡ clears session (now (message .entry)) (self .fresh) ⌝ }
     {
         match session {
             Session::SendKey => false,
@@ -68,7 +68,7 @@ impl Feed {
     // The feed after a session's message that is taken: what it does, and the next SeqNum advances.
     pub(crate) fn done(self, session: Session, message: &[u8], time: u64) -> Feed
         requires { ⌜ (Kind.Session session ≡ kindIn (now message)) × (self .next ≤ lastSeqNum) ⌝ }
-        ensures { λ r. ⌜ ((seq internal : ℕ) (x : Tables) → stateOf r (clearedIf (clears session (now (message .entry)) self) x) ≡ taken time (Message seq internal (now (message .entry))) (stateOf self x)) ⌝ }
+        ensures { λ r. ⌜ ((seq internal : ℕ) (x : Tables) → stateOf r (clearedIf (clears session (now (message .entry)) (self .fresh)) x) ≡ taken time (Message seq internal (now (message .entry))) (stateOf self x)) ⌝ }
     {
         let f = self.advanced(time);
         match session {

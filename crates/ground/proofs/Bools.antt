@@ -1,6 +1,7 @@
 -- Tests, and choices by tests. Assumes nothing.
 use mathlib.Core.Path.{_≡_, refl}
 use mathlib.Core.Bool.{Bool, true, false, cond, _&&_, false≢true}
+use lib.Dec.{T}
 
 -- both parts of a conjunction, and back
 pub both : (a b : Bool) → a && b ≡ true → (a ≡ true) × (b ≡ true)
@@ -14,6 +15,19 @@ join false b p q = p
 pub no-second : (a b : Bool) → b ≡ false → a && b ≡ false
 no-second true b e = e
 no-second false b e = refl
+
+-- a test that passes as a proposition, and back; and both parts of one
+pub of-T : (b : Bool) → T b → b ≡ true
+of-T true h = refl
+of-T false h = absurd h
+
+pub is-T : (b : Bool) → b ≡ true → T b
+is-T true e = tt
+is-T false e = absurd (false≢true e)
+
+pub two : (a b : Bool) → T (a && b) → T a × T b
+two true b h = (tt, h)
+two false b h = absurd h
 
 -- a choice between two that are the same; a choice that is its own test
 pub cond-same : {A : Type 0} (b : Bool) (x : A) → cond b x x ≡ x

@@ -171,7 +171,7 @@ unfolding promises-GoodMorning.on promises-GoodMorning.due promises-GoodMorning.
 promises-goodmorning = 0
 
 unfoldable promises-leaves : ℕ
-unfolding promises-Leaves.statusWipes promises-Leaves.wipes promises-Leaves.clearing promises-Leaves.writing
+unfolding promises-Leaves.wipes promises-Leaves.clearing promises-Leaves.writing
 promises-leaves = 0
 
 unfoldable promises-ledger : ℕ

@@ -1,13 +1,13 @@
 -- The customer's demands, proved: each is named as its statement in specs/Demands, with a small letter. Assumes nothing.
 use Prim.Native.Nat.{ℕ, zero}
 use mathlib.Core.Path.{_≡_, refl, sym, ap, subst}
-use mathlib.Core.Bool.{Bool, true, false, cond, not, true≢false}
+use mathlib.Core.Bool.{Bool, true, false, cond, not}
 use mathlib.Core.Logic.{_⊎_, inl, inr, ⊎-elim}
 use mathlib.Core.List.{List, [], _∷_}
 use lib.Dec.{T, leb, eqb}
 use borrow.Author.Tests.{not-false, eqb-true, leb-true}
 use Rattle.ground.specs.Choice.{oneOf, first, all}
-use Rattle.ground.proofs.Bools.{both, split}
+use Rattle.ground.proofs.Bools.{both, split, is-T}
 use Rattle.ground.proofs.Choices.{first-may, first-skips}
 use Rattle.books.specs.Table.{bookIn, unsound, noSlot, misfits, booksAfter}
 use Rattle.books.proofs.Frames.{books-own, books-slots, books-other, books-length, books-tail, book-sound-in}
@@ -86,14 +86,10 @@ behind = A.pieces
 isAccepted : Answer → Bool
 isAccepted a = accepted (number a)
 
-is-yes : (b : Bool) → b ≡ true → T b
-is-yes true e = tt
-is-yes false e = absurd (true≢false (sym e))
-
 next-is : (s : State) (time seq internal : ℕ) (m : List ℕ) → accepted (number (answerTo (s .feed) (s .tables) time (Message seq internal m))) ≡ true → isNext (s .feed) seq ≡ true
 unfolding isAccepted tests lineTests tableTests onMessage number
 next-is s time seq internal m h =
-    not-false (isNext (s .feed) seq) (first-skips isAccepted (numbered 13) (tests (s .feed) (s .tables) time (Message seq internal m)) (Take 0) (is-yes _ h) tt)
+    not-false (isNext (s .feed) seq) (first-skips isAccepted (numbered 13) (tests (s .feed) (s .tables) time (Message seq internal m)) (Take 0) (is-T _ h) tt)
 
 pub next : D.Next
 unfolding outcome handed isNext

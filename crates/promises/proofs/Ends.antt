@@ -6,12 +6,12 @@ use mathlib.Core.Path.{_≡_, refl, sym, ap, subst, _∙_}
 use mathlib.Core.Bool.{Bool, true, false, cond, not, _&&_, true≢false}
 use mathlib.Core.List.{List, [], _∷_, _++_}
 use lib.ListN.{length, take, drop, length-take, length-drop}
-use lib.Dec.{T, ltb, eqb}
+use lib.Dec.{T, eqb}
 use Rattle.ground.specs.Choice.{oneOf, first, all}
+use Rattle.ground.proofs.Bools.{of-T, is-T}
 use Rattle.ground.proofs.Choices.{first-may, each-has}
 use Rattle.wire.specs.Number.{bytesOnly}
 use Rattle.ladder.proofs.Orders.{all-take, all-drop}
-use Rattle.feed.specs.Messages.{kind}
 use Rattle.feed.specs.Feeds.{listedLimit, newGiven}
 use Rattle.feed.specs.Events.{Tables, State, Event, Connect, Arrive, News, Linked, More, Heartbeat, Message, news, timeOf, onMessage}
 use Rattle.feed.specs.Answers.{number, arrives, lacksNeed, isMore, lineTests, tableTests, tests, reply, answerTo}
@@ -69,14 +69,6 @@ ending s bytes time =
     each-has Ending (answersTo (Arrive bytes time))
     (λ f a b. absurd (a refl), (yes 11 tt, (yes 3 tt, (yes 12 tt, (yes 13 tt, (yes 14 tt, (no 1 refl, (yes 15 tt, (λ f a b. absurd (b refl), (yes 17 tt, (yes 16 tt, (no 2 refl, (no 0 refl, tt)))))))))))))
     (outcome s (Arrive bytes time) .given .answer) (F.answer-listed s (Arrive bytes time))
-
-of-T : (b : Bool) → T b → b ≡ true
-of-T true h = refl
-of-T false h = absurd h
-
-is-T : (b : Bool) → b ≡ true → T b
-is-T true e = tt
-is-T false e = absurd (true≢false (sym e))
 
 -- one event more
 more-bytes : (es : List Event) (e : Event) → Bytes es → T (handsBytes e) → Bytes (es ++ (e ∷ []))

@@ -8,7 +8,7 @@ use lib.ListN.{length}
 use lib.Dec.{T, ltb, leb, eqb}
 use borrow.Author.Tests.{not-true, eqb-true, leb-true, le-leb, le-ltb}
 use Rattle.ground.specs.Choice.{oneOf, pick, first, all}
-use Rattle.ground.proofs.Bools.{both}
+use Rattle.ground.proofs.Bools.{both, of-T, two}
 use Rattle.slots.specs.Layout.{countIn, clearedIn, withCode}
 use Rattle.ladder.specs.Message.{securityCode, listedCode, listedEntry, listedBook, entries}
 use Rattle.ladder.specs.Walk.{emptyBook, bookAfter}
@@ -411,14 +411,6 @@ module _ (n : ℕ) (s : State) (h : History) (w : Talk) (k : S.Inv n s h) (i : G
       let p₃ = both (a && b && c) d (p₄ .0) in
       let p₂ = both (a && b) c (p₃ .0) in
       message seq internal m (rw (i .next) (p₂ .0)) (not-true (wrongSize m) (p₂ .1)) (p₃ .1) (p₄ .1) (p₅ .1)
-
-of-T : (b : Bool) → T b → b ≡ true
-of-T true h = refl
-of-T false h = absurd h
-
-two : (a b : Bool) → T (a && b) → T a × T b
-two true b h = (tt, h)
-two false b h = absurd h
 
 pair : (a b : Bool) → a ≡ true → T b → T (a && b)
 pair true b e t = t

@@ -5,7 +5,7 @@ use mathlib.Core.Bool.{Bool, true, false, cond, _||_, true≢false}
 use mathlib.Core.List.{List, [], _∷_}
 use lib.Dec.{T}
 use Rattle.ground.specs.Choice.{oneOf}
-use Rattle.ground.proofs.Bools.{split}
+use Rattle.ground.proofs.Bools.{split, of-T}
 use Rattle.ground.proofs.Choices.{each-has}
 use Rattle.slots.specs.Slots.{codeOf}
 use Rattle.slots.proofs.Zeros.{length-cleared, slots-cleared, tail-cleared}
@@ -16,7 +16,7 @@ use Rattle.feed.specs.Events.{Tables, clearedTables, State, Event, News, Linked
 use Rattle.feed.specs.Answers.{number, passed, answerTo, reply}
 use Rattle.feed.specs.declared.Answer.{Answer}
 use Rattle.feed.specs.declared.Answer.the-variants.{Keep, Lose, Spoil, Skip, Take}
-use Rattle.feed.specs.Steps.{cleared, loggedOn, tablesAfter, does, taken, act, handed, outcome}
+use Rattle.feed.specs.Steps.{clearsOn, clears, cleared, loggedOn, tablesAfter, does, taken, act, handed, outcome}
 use Rattle.feed.specs.declared.Kind.{Kind}
 use Rattle.feed.specs.declared.Kind.the-variants.{Session, Market}
 use Rattle.feed.specs.declared.Session.the-variants.{SendKey, Logon, Logout, Refresh, Complete, Request}
@@ -24,14 +24,14 @@ use Rattle.feed.specs.declared.Datum.the-variants.{Book, Other}
 use Rattle.feed.specs.declared.Status.{Status}
 use Rattle.feed.specs.declared.Status.the-variants.{Opens, Refills, Stays, Closes, Unlisted}
 use Rattle.promises.specs.Leaves as L
-use Rattle.promises.specs.Leaves.{statusWipes, wipes, clearing, writing}
+use Rattle.promises.specs.Leaves.{wipes, clearing, writing}
 use Rattle.promises.proofs.Refused.{proper, reply-proper}
 use Rattle.promises.proofs.Steps.{two-passed}
 use Rattle.promises.proofs.Demands.{zero-take}
 
 -- the tables after a message that is taken: as they were, cleared, or after a book message
-after-status : (st : Status) (s : State) → loggedOn st s .tables ≡ cond (statusWipes (s .feed .fresh) st) (clearedTables (s .tables)) (s .tables)
-unfolding loggedOn statusWipes
+after-status : (st : Status) (s : State) → loggedOn st s .tables ≡ cond (clearsOn st (s .feed .fresh)) (clearedTables (s .tables)) (s .tables)
+unfolding loggedOn clearsOn
 after-status Opens s = go (s .feed .fresh)
   where
     go : (b : Bool) → cond b (cleared s) s .tables ≡ cond b (clearedTables (s .tables)) (s .tables)
@@ -44,7 +44,7 @@ after-status Unlisted s = refl
 
 after-kind : (k : Kind) (time : ℕ) (m : List ℕ) (s : State) → does k time m s .tables
     ≡ cond (onMarket book k) (tablesAfter Book time m (s .tables)) (cond (wipes (s .feed .fresh) k m) (clearedTables (s .tables)) (s .tables))
-unfolding does onMarket book wipes tablesAfter
+unfolding does onMarket book wipes clears tablesAfter
 after-kind (Session SendKey) time m s = refl
 after-kind (Session Logon) time m s = after-status (statusOf (logonStatus m)) s
 after-kind (Session Logout) time m s = refl
@@ -60,10 +60,6 @@ unfolding passed onMarket book wipes
 passed-leaves (Session s) fresh m e = absurd (true≢false (sym e))
 passed-leaves (Market Book) fresh m e = absurd (true≢false (sym e))
 passed-leaves (Market Other) fresh m e = refl
-
-of-T : (b : Bool) → T b → b ≡ true
-of-T true h = refl
-of-T false h = absurd h
 
 neither : (a b : Bool) → a ≡ true → (a || b) ≡ false → ⊥
 neither true b f o = true≢false o

@@ -8,7 +8,7 @@ use lib.ListN.{length, length-append}
 use lib.Dec.{T, ltb, eqb}
 use borrow.Author.Tests.{not-false, eqb-true, leb-false, lt-ltb}
 use Rattle.ground.specs.Choice.{oneOf, all}
-use Rattle.ground.proofs.Bools.{both, split}
+use Rattle.ground.proofs.Bools.{both, split, of-T}
 use Rattle.ground.proofs.Choices.{first-may, first-skips, each-has}
 use Rattle.feed.specs.Messages.{kind, onMarket, market, statusOf, logonStatus, lastInternal}
 use Rattle.feed.specs.Feeds.{is, deaf, inPhase, internalIs, wholeIs}
@@ -35,10 +35,6 @@ use Rattle.promises.proofs.Steps.{Fine, fine, Any, any-news, on-step}
 use Rattle.promises.proofs.Badges as B
 use Rattle.promises.proofs.Badges.{Agree, is-same, new-feed}
 use Rattle.promises.proofs.Replays as R
-
-of-T : (b : Bool) → T b → b ≡ true
-of-T true h = refl
-of-T false h = absurd h
 
 -- one number more
 up-more : (q : List ℕ) (seq : ℕ) → seq ≡ length q + 1 → q ≡ upTo (length q) → q ++ (seq ∷ []) ≡ upTo (length (q ++ (seq ∷ [])))

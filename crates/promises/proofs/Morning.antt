@@ -9,7 +9,7 @@ use Rattle.ground.specs.Choice.{oneOf, all}
 use Rattle.wire.specs.Units.{unitOf}
 use Rattle.wire.specs.declared.Unit.{Unit}
 use Rattle.wire.specs.declared.Unit.the-variants as unit
-use Rattle.ground.proofs.Bools.{both, split, no-second}
+use Rattle.ground.proofs.Bools.{both, split, no-second, two}
 use Rattle.ground.proofs.Choices.{first-may, each-has}
 use Rattle.books.specs.Table.{unsound, hasEntries}
 use Rattle.books.proofs.Frames.{AllSound, never-unsound}
@@ -33,10 +33,6 @@ use Rattle.promises.specs.Refusals.{ending}
 use Rattle.promises.specs.Demands.{isConnect, connects, letsIn, isLogon, logsOn}
 use Rattle.promises.proofs.Badges.{badge-green}
 use Rattle.promises.proofs.Soundness.{all-sound}
-
-two : (a b : Bool) → T (a && b) → T a × T b
-two true b h = (tt, h)
-two false b h = absurd h
 
 -- 18 never comes where every slot is sound
 notEighteen : Answer → Bool

@@ -8,6 +8,7 @@ use mathlib.Core.List.{List, [], _∷_, _++_, append-assoc, append-nil}
 use lib.ListN.{length, drop}
 use lib.Dec.{T, ltb}
 use Rattle.ground.specs.Choice.{first, all}
+use Rattle.ground.proofs.Bools.{two}
 use Rattle.wire.specs.Units.{unitOf}
 use Rattle.wire.specs.declared.Unit.the-variants as unit
 use Rattle.feed.specs.Feeds.{deaf}
@@ -20,10 +21,6 @@ use Rattle.promises.specs.Runs.{after}
 use Rattle.promises.specs.Pieces as P
 use Rattle.promises.specs.Pieces.{Left, calls, callsIn, stream, times}
 use Rattle.promises.proofs.Demands.{behind}
-
-two : (a b : Bool) → T (a && b) → T a × T b
-two true b h = (tt, h)
-two false b h = absurd h
 
 -- where the bytes end too early the call is not accepted
 more-answer : (s : State) (time : ℕ) → accepted (number (answerTo (s .feed) (s .tables) time News.More)) ≡ false

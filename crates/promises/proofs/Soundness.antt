@@ -1,11 +1,12 @@
 -- Demand 3 book by book: every slot is sound at every moment, and each code's book is what its own messages make of an empty one. Assumes nothing.
 use Prim.Native.Nat.{ℕ}
 use mathlib.Core.Path.{_≡_, refl, sym, ap, _∙_, subst}
-use mathlib.Core.Bool.{Bool, true, false, cond, _&&_, true≢false}
+use mathlib.Core.Bool.{Bool, true, false, cond}
 use mathlib.Core.List.{List, [], _∷_, _++_}
 use lib.Dec.{T}
 use lib.ListN.{drop, replicate}
 use Rattle.ground.specs.Choice.{all}
+use Rattle.ground.proofs.Bools.{of-T, is-T, two}
 use Rattle.wire.specs.Number.{bytesOnly}
 use Rattle.wire.specs.Units.{unitOf}
 use Rattle.wire.specs.declared.Unit.{Unit}
@@ -31,18 +32,6 @@ use Rattle.promises.specs.Runs.{start, run, Deed, Took, History, noHisto
 use Rattle.promises.specs.Demands.{handsBytes, Bytes}
 use Rattle.promises.proofs.Steps.{OfNews, Each, Keeps, on-run}
 use Rattle.promises.proofs.Replays as R
-
-of-T : (b : Bool) → T b → b ≡ true
-of-T true h = refl
-of-T false h = absurd h
-
-is-T : (b : Bool) → b ≡ true → T b
-is-T true e = tt
-is-T false e = absurd (true≢false (sym e))
-
-two : (a b : Bool) → T (a && b) → T a × T b
-two true b h = (tt, h)
-two false b h = absurd h
 
 -- every code's book, after the deeds ds
 abbrev pub Booked : List ℕ → List Deed → Type 0

@@ -6,6 +6,7 @@ use mathlib.Core.List.{List, [], _∷_}
 use lib.Dec.{T, eqb}
 use borrow.Author.Tests.{not-false}
 use Rattle.ground.specs.Choice.{oneOf, first, all}
+use Rattle.ground.proofs.Bools.{of-T}
 use Rattle.ground.proofs.Choices.{testOf, noneUpto, first-may, first-skips, each-has}
 use Rattle.books.specs.Table.{unsound, noSlot, misfits}
 use Rattle.feed.specs.Messages.{kind, onMarket, book, wrongSize, listed}
@@ -119,10 +120,6 @@ two-passed s time (Message seq internal m) e = go (passed (kind m)) refl
         absurd (subst (λ (a : Answer). T (not (isTwo a))) e
         (first-may (λ a. not (isTwo a)) (tests (s .feed) (s .tables) time (Message seq internal m)) (Take 0) (rw q tt) tt))
 
-is-yes : (b : Bool) → T b → b ≡ true
-is-yes true h = refl
-is-yes false h = absurd h
-
 module _ (P : List ℕ → Type 0) (I : State → History → Type 0) (K : Keeps P I) where
   -- what is to be shown of an answer made of a number
   Goes : State → History → ℕ → News → (ℕ → Answer) → ℕ → Type 0
@@ -135,7 +132,7 @@ module _ (P : List ℕ → Type 0) (I : State → History → Type 0) (K : Keeps
   on-two s h time Heartbeat p i e = absurd (two-passed s time Heartbeat e)
   on-two s h time (Message seq internal m) p i e =
       subst (λ (g : History). I (taken time (Message seq internal m) s) (noteHeard time g))
-      (noted (kind m) time m h (is-yes (passed (kind m)) (two-passed s time (Message seq internal m) e)))
+      (noted (kind m) time m h (of-T (passed (kind m)) (two-passed s time (Message seq internal m) e)))
       (K .taken s h time seq internal m p (fine s time seq internal m 2 e) i)
 
   on-zero : (s : State) (h : History) (time : ℕ) (n : News) → OfNews P n → I s h → answerTo (s .feed) (s .tables) time n ≡ Take 0 → I (taken time n s) (noteNews n time h)

@@ -8,30 +8,15 @@ use Rattle.slots.specs.Slots.{codeOf}
 use Rattle.slots.specs.Layout.{countIn, slotsIn}
 use Rattle.ladder.specs.Words.{bookWidth}
 use Rattle.books.specs.Table.{books, block}
-use Rattle.feed.specs.Messages.{kind, onMarket, book, statusOf, logonStatus}
+use Rattle.feed.specs.Messages.{kind, onMarket, book}
 use Rattle.feed.specs.Events.{State, Event, news, onMessage}
-use Rattle.feed.specs.Steps.{outcome}
+use Rattle.feed.specs.Steps.{clears, outcome}
 use Rattle.feed.specs.declared.Kind.{Kind}
 use Rattle.feed.specs.declared.Kind.the-variants.{Session, Market}
-use Rattle.feed.specs.declared.Session.the-variants.{SendKey, Logon, Logout, Refresh, Complete, Request}
-use Rattle.feed.specs.declared.Status.{Status}
-use Rattle.feed.specs.declared.Status.the-variants.{Opens, Refills, Stays, Closes, Unlisted}
 
--- a logon that clears: 101, and 0 or 2 after a fresh connect
-unfoldable pub statusWipes : Bool → Status → Bool
-statusWipes fresh Opens = fresh
-statusWipes fresh Refills = true
-statusWipes fresh Stays = false
-statusWipes fresh Closes = false
-statusWipes fresh Unlisted = false
-
+-- a message that clears: a logon with 101, and with 0 or 2 after a fresh connect (feed/specs/Steps)
 unfoldable pub wipes : Bool → Kind → List ℕ → Bool
-wipes fresh (Session SendKey) m = false
-wipes fresh (Session Logon) m = statusWipes fresh (statusOf (logonStatus m))
-wipes fresh (Session Logout) m = false
-wipes fresh (Session Refresh) m = false
-wipes fresh (Session Complete) m = false
-wipes fresh (Session Request) m = false
+wipes fresh (Session k) m = clears k m fresh
 wipes fresh (Market d) m = false
 
 -- an event that brings such a logon; or that or a book message

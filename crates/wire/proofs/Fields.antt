@@ -3,24 +3,20 @@ use Prim.Native.Nat.{ℕ, zero, suc, _+_, _^_, _≤_, _<_}
 use native.Mathlib.Nat.{pow-succ'}
 use native.Mathlib.Omega.{arith}
 use mathlib.Core.Path.{_≡_, refl}
-use mathlib.Core.Bool.{Bool, true, false, _&&_}
 use mathlib.Core.List.{List, [], _∷_, _++_}
 use lib.Dec.{T, ltb, ltb→lt, lit<}
 use lib.ListN.{length, getD, drop, List·getD-eq-default, List·getD-append}
 use lib.Seq.{getD-drop}
 use Rattle.ground.specs.Choice.{all}
+use Rattle.ground.proofs.Bools.{two}
 use Rattle.wire.specs.Number.{field, bytesOnly}
-
-both : (a b : Bool) → T (a && b) → T a × T b
-both true b h = (tt, h)
-both false b h = absurd h
 
 -- every number of a list of bytes is below 256, and so is the 0 beyond its end
 pub byte-below : (s : List ℕ) (i : ℕ) → T (bytesOnly s) → getD s i 0 < 256
 unfolding all
 byte-below [] i h = lit< tt
-byte-below (x ∷ s) zero h = ltb→lt x 256 (both (ltb x 256) (bytesOnly s) h .0)
-byte-below (x ∷ s) (suc i) h = byte-below s i (both (ltb x 256) (bytesOnly s) h .1)
+byte-below (x ∷ s) zero h = ltb→lt x 256 (two (ltb x 256) (bytesOnly s) h .0)
+byte-below (x ∷ s) (suc i) h = byte-below s i (two (ltb x 256) (bytesOnly s) h .1)
 
 -- n bytes hold a number below 256 ^ n
 pub field-below : (at n : ℕ) (s : List ℕ) → T (bytesOnly s) → field at n s < 256 ^ n
