@@ -15,7 +15,7 @@ use lib.Dec.{eqb}
 use borrow.Author.Tests.{eqb-true, eq-eqb}
 use Rattle.ground.specs.Choice.{oneOf}
 use Rattle.slots.specs.Slots.{codeOf, lowest}
-use Rattle.slots.specs.Layout.{Layout, noneFree, misfit, countIn, slotsIn, clearedIn, placeIn, valueIn, written, stepped, withCode}
+use Rattle.slots.specs.Layout.{Layout, Step, noneFree, misfit, countIn, slotsIn, clearedIn, placeIn, valueIn, written, stepped, withCode}
 use Rattle.slots.proofs.Lawful.{Lawful}
 use Rattle.slots.specs.declared.Slot.{Slot}
 use Rattle.slots.specs.declared.Slot.the-variants.{Held, Free, Full}
@@ -136,11 +136,10 @@ module _ {A : Type 0} (L : Layout A) where
               rw e (ap codeOf there ∙ laws .opens c a ∙ sym same)
           go j (no e) = ap codeOf (getD-set-other (slotsIn L t) k j (L .words c a) [] e) ∙ f .here j ∙ sym (other j e)
 
-      write-held : (k : ℕ) → placeIn L c t ≡ Held k → Filled (wrote L c k a t) (withCode c cs)
-      unfolding withCode
+      write-held : (k : ℕ) → placeIn L c t ≡ Held k → Filled (wrote L c k a t) cs
       write-held k p =
           let same : getD cs k 0 ≡ c = sym (f .here k) ∙ held-code c (slotsIn L t) k p in
-          rw (held k nz p) (put-filled k (inl p) cs (f .fit) same (λ j e. refl) (f .named))
+          put-filled k (inl p) cs (f .fit) same (λ j e. refl) (f .named)
 
       write-free : (k : ℕ) → placeIn L c t ≡ Free k → Filled (wrote L c k a t) (withCode c cs)
       unfolding withCode
@@ -164,14 +163,20 @@ module _ {A : Type 0} (L : Layout A) where
               let e : j ≡ length cs = omega (arith, l, m) in
               nz (sym (getD-append-seam cs c [] 0) ∙ sym (ap (λ (x : ℕ). getD (cs ++ (c ∷ [])) x 0) e) ∙ z)
 
-    -- a message that fits, where there is room for its code
-    pub stepped-filled : {Fit Well : A → Type 0} → Lawful L Fit Well → (c ≡ 0 → ⊥) → (step : A → Option A) → misfit (step (valueIn L c t)) ≡ false
-        → length (withCode c cs) ≤ countIn L (length t) → Filled (stepped L c step t) (withCode c cs)
-    unfolding stepped written misfit
-    stepped-filled laws nz step x l = go (placeIn L c t) refl (step (valueIn L c t)) x
+  -- a step that fits, where there is room for its code if it takes a slot
+  module _ {Fit Well : A → Type 0} (laws : Lawful L Fit Well) (q : Step A) (t cs : List ℕ) (f : Filled t cs) (nz : q .code ≡ 0 → ⊥) where
+    pub stepped-filled : misfit (q .makes (valueIn L (q .code) t)) ≡ false → (q .takes ≡ true → length (withCode (q .code) cs) ≤ countIn L (length t))
+        → Filled (stepped L q t) (cond (q .takes) (withCode (q .code) cs) cs)
+    unfolding stepped written misfit withCode
+    stepped-filled x l = go (placeIn L (q .code) t) refl (q .makes (valueIn L (q .code) t)) x (q .takes) l
       where
-        go : (p : Slot) → placeIn L c t ≡ p → (r : Option A) → misfit r ≡ false → Filled (written L p c r t) (withCode c cs)
-        go p q none x = absurd (true≢false x)
-        go (Held k) q (some a) x = write-held laws nz a k q
-        go (Free k) q (some a) x = write-free laws nz a k q
-        go Full q (some a) x = absurd (not-full l q)
+        go : (p : Slot) → placeIn L (q .code) t ≡ p → (r : Option A) → misfit r ≡ false
+            → (b : Bool) → (b ≡ true → length (withCode (q .code) cs) ≤ countIn L (length t))
+            → Filled (written L b p (q .code) r t) (cond b (withCode (q .code) cs) cs)
+        go p e none x b l = absurd (true≢false x)
+        go (Held k) e (some a) x true l = rw (held (q .code) t cs f k nz e) (write-held (q .code) t cs f laws nz a k e)
+        go (Held k) e (some a) x false l = write-held (q .code) t cs f laws nz a k e
+        go (Free k) e (some a) x true l = write-free (q .code) t cs f laws nz a k e
+        go Full e (some a) x true l = absurd (not-full (q .code) t cs f (l refl) e)
+        go (Free k) e (some a) x false l = f
+        go Full e (some a) x false l = f

@@ -1,4 +1,4 @@
--- Messages for two codes, over any lawful layout: in either order the same words, and neither changes the other's answer. Assumes nothing.
+-- Steps of two codes, over any lawful layout: in either order the same words, and neither changes the other's answer. Assumes nothing.
 use Prim.Native.Nat.{ℕ}
 use native.Mathlib.Omega.{arith}
 use mathlib.Core.Path.{_≡_, refl, sym, ap, _∙_}
@@ -8,7 +8,7 @@ use mathlib.Core.List.{List}
 use mathlib.Core.Option.{Option, none, some}
 use lib.Dec.{eqb}
 use Rattle.slots.specs.Slots.{place}
-use Rattle.slots.specs.Layout.{Layout, slotsIn, block, placeIn, unsoundAt, valueAt, valueIn, written, answer, stepped, turn}
+use Rattle.slots.specs.Layout.{Layout, Step, slotsIn, block, placeIn, unsoundAt, valueAt, valueIn, written, answer, stepped, turn}
 use Rattle.slots.proofs.Lawful.{Lawful}
 use Rattle.slots.specs.declared.Slot.{Slot}
 use Rattle.slots.specs.declared.Slot.the-variants.{Held, Free, Full}
@@ -43,25 +43,31 @@ module _ {A : Type 0} (L : Layout A) (d : ℕ) (u t : List ℕ) (s : Sees L d u 
       go (Free k) e = refl
       go Full e = refl
 
-  -- its message is answered the same, and writes the same
-  same-answer : (step : A → Option A) → answer L d step u ≡ answer L d step t
+-- its step is answered the same, and writes the same
+module _ {A : Type 0} (L : Layout A) (q : Step A) (u t : List ℕ) (s : Sees L (q .code) u t) where
+  same-answer : answer L q u ≡ answer L q t
   unfolding answer
-  same-answer step = rw (same-unsound, same-value, s .found)
+  same-answer = rw (same-unsound L (q .code) u t s, same-value L (q .code) u t s, s .found)
 
-  same-turn : (step : A → Option A)
-      → turn L d step u .words ≡ cond (eqb (answer L d step t) 0) (written L (placeIn L d t) d (step (valueIn L d t)) u) u
+  same-turn : turn L q u .words ≡ cond (eqb (answer L q t) 0) (written L (q .takes) (placeIn L (q .code) t) (q .code) (q .makes (valueIn L (q .code) t)) u) u
   unfolding stepped
-  same-turn step = rw (same-answer step, same-value, s .found)
+  same-turn = rw (same-answer, same-value L (q .code) u t s, s .found)
 
--- two different codes, of which one has a slot
-module _ {A : Type 0} (L : Layout A) {Fit Well : A → Type 0} (laws : Lawful L Fit Well) (c d : ℕ) (g h : A → Option A) (t : List ℕ) (j : ℕ)
-    (held : placeIn L c t ≡ Held j) (ne : c ≡ d → ⊥) (nz : c ≡ 0 → ⊥) where
-  -- the table after the message of the one, and of the other
+-- steps of two different codes, of which one has a slot
+module _ {A : Type 0} (L : Layout A) {Fit Well : A → Type 0} (laws : Lawful L Fit Well) (x y : Step A) (t : List ℕ) (j : ℕ)
+    (held : placeIn L (x .code) t ≡ Held j) (ne : x .code ≡ y .code → ⊥) (nz : x .code ≡ 0 → ⊥) where
+  abbrev c : ℕ
+  c = x .code
+
+  abbrev d : ℕ
+  d = y .code
+
+  -- the table after the step of the one, and of the other
   abbrev one : List ℕ
-  one = turn L c g t .words
+  one = turn L x t .words
 
   abbrev other : List ℕ
-  other = turn L d h t .words
+  other = turn L y t .words
 
   -- the slot of the one is not the slot of the other
   apart : (k : ℕ) → Lands d (slotsIn L t) k → j ≡ k → ⊥
@@ -74,14 +80,14 @@ module _ {A : Type 0} (L : Layout A) {Fit Well : A → Type 0} (laws : Lawful L 
   only k (inl e) = cc
   only k (inr e) = let z : _≡_ {A = ℕ} 0 1 = cc in absurd (omega arith)
 
-  -- after a message the table is as it was, or has one value written
-  turn-either : (P : List ℕ → Type 0) (x : ℕ) (step : A → Option A) → P t
-      → ((k : ℕ) (a : A) → Lands x (slotsIn L t) k → P (wrote L x k a t)) → P (turn L x step t .words)
+  -- after a step the table is as it was, or has one value written
+  turn-either : (P : List ℕ → Type 0) (q : Step A) → P t → ((k : ℕ) (a : A) → Lands (q .code) (slotsIn L t) k → P (wrote L (q .code) k a t))
+      → P (turn L q t .words)
   unfolding stepped
-  turn-either P x step same new = turned L x step t P (either L laws P x t (step (valueIn L x t)) same (λ k a f q. new k a f)) same
+  turn-either P q same new = turned L q t P (either L laws P (q .takes) (q .code) t (q .makes (valueIn L (q .code) t)) same (λ k a f e. new k a f)) same
 
   sees-one : Sees L d one t
-  sees-one = turn-either (λ u. Sees L d u t) c g (record { found = refl; words = λ k e. refl }) wrote-one
+  sees-one = turn-either (λ u. Sees L d u t) x (record { found = refl; words = λ k e. refl }) wrote-one
     where
       wrote-one : (k : ℕ) (a : A) → Lands c (slotsIn L t) k → Sees L d (wrote L c k a t) t
       wrote-one k a f =
@@ -92,7 +98,7 @@ module _ {A : Type 0} (L : Layout A) {Fit Well : A → Type 0} (laws : Lawful L 
           }
 
   sees-other : Sees L c other t
-  sees-other = turn-either (λ u. Sees L c u t) d h (record { found = refl; words = λ k e. refl }) wrote-other
+  sees-other = turn-either (λ u. Sees L c u t) y (record { found = refl; words = λ k e. refl }) wrote-other
     where
       wrote-other : (k : ℕ) (a : A) → Lands d (slotsIn L t) k → Sees L c (wrote L d k a t) t
       wrote-other k a f = record {
@@ -100,12 +106,12 @@ module _ {A : Type 0} (L : Layout A) {Fit Well : A → Type 0} (laws : Lawful L 
         words = λ i e. wrote-block L laws d k t f a i (λ q. apart k f (only i (inl e) ∙ q));
       }
 
-  -- neither message changes what the other is answered
-  pub answer-after-one : answer L d h one ≡ answer L d h t
-  answer-after-one = same-answer L d one t sees-one h
+  -- neither step changes what the other is answered
+  pub answer-after-one : answer L y one ≡ answer L y t
+  answer-after-one = same-answer L y one t sees-one
 
-  pub answer-after-other : answer L c g other ≡ answer L c g t
-  answer-after-other = same-answer L c other t sees-other g
+  pub answer-after-other : answer L x other ≡ answer L x t
+  answer-after-other = same-answer L x other t sees-other
 
   -- what they write may change places
   both-written : (k : ℕ) → Lands d (slotsIn L t) k → (a b : A) → wrote L d k b (wrote L c j a t) ≡ wrote L c j a (wrote L d k b t)
@@ -113,33 +119,33 @@ module _ {A : Type 0} (L : Layout A) {Fit Well : A → Type 0} (laws : Lawful L 
       slots-comm (L .most) (L .width) j k (L .words c a) (L .words d b) t (lands-in L c j t (inl held)) (lands-in L d k t f) (apart k f)
       (laws .whole c a) (laws .whole d b)
 
-  written-comm : (r q : Option A) (p : Slot) → placeIn L d t ≡ p
-      → written L p d q (written L (Held j) c r t) ≡ written L (Held j) c r (written L p d q t)
+  written-comm : (r q : Option A) (p : Slot) → placeIn L d t ≡ p → (v w : Bool)
+      → written L w p d q (written L v (Held j) c r t) ≡ written L v (Held j) c r (written L w p d q t)
   unfolding written
-  written-comm none q p e = refl
-  written-comm (some a) q Full e = refl
-  written-comm (some a) none (Held k) e = refl
-  written-comm (some a) none (Free k) e = refl
-  written-comm (some a) (some b) (Held k) e = both-written k (inl e) a b
-  written-comm (some a) (some b) (Free k) e = both-written k (inr e) a b
+  written-comm none q p e v w = refl
+  written-comm (some a) none p e v w = refl
+  written-comm (some a) (some b) (Held k) e v w = both-written k (inl e) a b
+  written-comm (some a) (some b) (Free k) e v true = both-written k (inr e) a b
+  written-comm (some a) (some b) (Free k) e v false = refl
+  written-comm (some a) (some b) Full e v w = refl
 
   -- what each writes, in any table
   abbrev F : List ℕ → List ℕ
-  F u = written L (placeIn L c t) c (g (valueIn L c t)) u
+  F u = written L (x .takes) (placeIn L c t) c (x .makes (valueIn L c t)) u
 
   abbrev G : List ℕ → List ℕ
-  G u = written L (placeIn L d t) d (h (valueIn L d t)) u
+  G u = written L (y .takes) (placeIn L d t) d (y .makes (valueIn L d t)) u
 
   -- in either order the same words
-  pub turns-comm : turn L d h one .words ≡ turn L c g other .words
+  pub turns-comm : turn L y one .words ≡ turn L x other .words
   unfolding stepped
   turns-comm =
-      same-turn L d one t sees-one h
-      ∙ swap (eqb (answer L c g t) 0) (eqb (answer L d h t) 0)
-      ∙ sym (same-turn L c other t sees-other g)
+      same-turn L y one t sees-one
+      ∙ swap (eqb (answer L x t) 0) (eqb (answer L y t) 0)
+      ∙ sym (same-turn L x other t sees-other)
     where
-      swap : (x y : Bool) → cond y (G (cond x (F t) t)) (cond x (F t) t) ≡ cond x (F (cond y (G t) t)) (cond y (G t) t)
-      swap true true = rw held (written-comm (g (valueAt L (Held j) t)) (h (valueIn L d t)) (placeIn L d t) refl)
+      swap : (v w : Bool) → cond w (G (cond v (F t) t)) (cond v (F t) t) ≡ cond v (F (cond w (G t) t)) (cond w (G t) t)
+      swap true true = rw held (written-comm (x .makes (valueAt L (Held j) t)) (y .makes (valueIn L d t)) (placeIn L d t) refl (x .takes) (y .takes))
       swap true false = refl
       swap false true = refl
       swap false false = refl

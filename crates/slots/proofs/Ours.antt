@@ -1,13 +1,12 @@
--- A table of n words, of which those behind the slots are zero: n zero words are one, a message keeps it so, a clearing gives the zero words again.
+-- A table of n words, of which those behind the slots are zero: n zero words are one, a step keeps it so, a clearing gives the zero words again.
 -- Over any lawful layout. Assumes nothing.
 use Prim.Native.Nat.{ℕ, zero, suc, _+_, _-_, _*_}
 use native.Mathlib.Omega.{arith}
 use mathlib.Core.Path.{_≡_, ap, _∙_}
 use mathlib.Core.List.{List}
-use mathlib.Core.Option.{Option}
 use lib.ListN.{length, drop, replicate, length-replicate, replicate-append-replicate}
 use Rattle.slots.specs.Slots.{cleared}
-use Rattle.slots.specs.Layout.{Layout, countIn, clearedIn, stepped}
+use Rattle.slots.specs.Layout.{Layout, Step, countIn, clearedIn, stepped}
 use Rattle.slots.proofs.Lawful.{Lawful}
 use Rattle.slots.proofs.Blocks.{slots-fit}
 use Rattle.slots.proofs.Steps.{stepped-length, stepped-tail}
@@ -38,10 +37,9 @@ module _ {A : Type 0} (L : Layout A) where
       rw (o .long, o .rest, replicate-append-replicate)
       (ap (λ (k : ℕ). replicate k 0) (let e : slotted n + (n - slotted n) ≡ n = omega (arith, slots-fit (L .most) (L .width) n) in e))
 
-  -- a message keeps it so
-  pub stepped-ours : {Fit Well : A → Type 0} → Lawful L Fit Well → (n c : ℕ) (step : A → Option A) (t : List ℕ)
-      → Ours n t → Ours n (stepped L c step t)
-  stepped-ours laws n c step t o = record {
-    long = stepped-length L c step t laws ∙ o .long;
-    rest = rw (← o .long) (stepped-tail L c step t laws ∙ rw (o .long) (o .rest));
+  -- a step keeps it so
+  pub stepped-ours : {Fit Well : A → Type 0} → Lawful L Fit Well → (n : ℕ) (q : Step A) (t : List ℕ) → Ours n t → Ours n (stepped L q t)
+  stepped-ours laws n q t o = record {
+    long = stepped-length L q t laws ∙ o .long;
+    rest = rw (← o .long) (stepped-tail L q t laws ∙ rw (o .long) (o .rest));
   }

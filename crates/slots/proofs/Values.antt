@@ -156,17 +156,16 @@ module _ {A : Type 0} (L : Layout A) where
       wrote-sound w s = rw wrote-slots (all-set (L .sound) k (L .words c a) (slotsIn L t) (laws .sounds c a w) s)
 
     -- a table after a value is written, or nothing: it is as it was, or has the value in the slot that the code has or takes
-    pub either : (P : List ℕ → Type 0) (c : ℕ) (t : List ℕ) (r : Option A) → P t
-        → ((k : ℕ) (a : A) → Lands c (slotsIn L t) k → r ≡ some a → P (wrote L c k a t)) → P (written L (placeIn L c t) c r t)
+    pub either : (P : List ℕ → Type 0) (takes : Bool) (c : ℕ) (t : List ℕ) (r : Option A) → P t
+        → ((k : ℕ) (a : A) → Lands c (slotsIn L t) k → r ≡ some a → P (wrote L c k a t)) → P (written L takes (placeIn L c t) c r t)
     unfolding written
-    either P c t r same new = go (placeIn L c t) refl r refl
+    either P takes c t r same new = go (placeIn L c t) refl r refl
       where
-        go : (p : Slot) → placeIn L c t ≡ p → (q : Option A) → r ≡ q → P (written L p c q t)
-        go (Held k) e none f = same
+        go : (p : Slot) → placeIn L c t ≡ p → (q : Option A) → r ≡ q → P (written L takes p c q t)
+        go p e none f = same
         go (Held k) e (some a) f = new k a (inl e) f
-        go (Free k) e none f = same
-        go (Free k) e (some a) f = new k a (inr e) f
-        go Full e q f = same
+        go (Free k) e (some a) f = split P takes (wrote L c k a t) t (λ y. new k a (inr e) f) (λ n. same)
+        go Full e (some a) f = same
 
     -- a cleared table: every slot is sound, and no code has a value
     pub cleared-sound : (t : List ℕ) → AllSound L (clearedIn L t)

@@ -2,7 +2,7 @@
 -- (Document 01 says it of books, in "The book table".) Assumes nothing.
 use Prim.Native.Nat.{ℕ}
 use mathlib.Core.Path.{_≡_}
-use mathlib.Core.Bool.{Bool, true, false, cond, not}
+use mathlib.Core.Bool.{Bool, true, false, cond, not, _&&_}
 use mathlib.Core.List.{List, [], _∷_, _++_}
 use mathlib.Core.Option.{Option, none, some}
 use lib.ListN.{getD}
@@ -24,6 +24,14 @@ pub record Layout (A : Type 0) : Type 0 where
   pub words : ℕ → A → List ℕ
   -- the value of a code that has no slot
   pub empty : A
+
+-- what a message asks of a table
+pub record Step (A : Type 0) : Type 0 where
+  -- its code, and whether a code that has no slot takes one (document 02, request 1: an emptied book's message takes none)
+  pub code : ℕ
+  pub takes : Bool
+  -- what it makes of the code's value, and none where it does not fit
+  pub makes : A → Option A
 
 -- an answer, and the words afterwards
 pub record Landed : Type 0 where
@@ -86,48 +94,47 @@ module _ {A : Type 0} (L : Layout A) where
   valueIn c t = valueAt (placeIn c t) t
 
   -- the table with a code's value written to its slot: "A code without one takes the lowest free slot, and the whole block is written"
-  unfoldable pub written : Slot → ℕ → Option A → List ℕ → List ℕ
-  written (Held k) c (some a) t = put (L .width) k (L .words c a) t
-  written (Held k) c none t = t
-  written (Free k) c (some a) t = put (L .width) k (L .words c a) t
-  written (Free k) c none t = t
-  written Full c r t = t
+  unfoldable pub written : Bool → Slot → ℕ → Option A → List ℕ → List ℕ
+  written takes p c none t = t
+  written takes (Held k) c (some a) t = put (L .width) k (L .words c a) t
+  written takes (Free k) c (some a) t = cond takes (put (L .width) k (L .words c a) t) t
+  written takes Full c (some a) t = t
 
-  -- a message for a code, by what it makes of the code's value: what it is answered, 18, 17, 16 or 0, in that order
-  unfoldable pub answer : ℕ → (A → Option A) → List ℕ → ℕ
-  answer c step t =
+  -- what a step is answered, 18, 17, 16 or 0, in that order
+  unfoldable pub answer : Step A → List ℕ → ℕ
+  answer q t =
       first
-      ((unsoundAt (placeIn c t) t, 18)
-      ∷ (noneFree (placeIn c t), 17)
-      ∷ (misfit (step (valueIn c t)), 16)
+      ((unsoundAt (placeIn (q .code) t) t, 18)
+      ∷ (q .takes && noneFree (placeIn (q .code) t), 17)
+      ∷ (misfit (q .makes (valueIn (q .code) t)), 16)
       ∷ [])
       0
 
   -- the table after one that is taken
-  unfoldable pub stepped : ℕ → (A → Option A) → List ℕ → List ℕ
-  stepped c step t = written (placeIn c t) c (step (valueIn c t)) t
+  unfoldable pub stepped : Step A → List ℕ → List ℕ
+  stepped q t = written (q .takes) (placeIn (q .code) t) (q .code) (q .makes (valueIn (q .code) t)) t
 
   -- the answer, and every word afterwards: only with 0 is anything written
-  abbrev pub turn : ℕ → (A → Option A) → List ℕ → Landed
-  turn c step t = landed (answer c step t) (cond (eqb (answer c step t) 0) (stepped c step t) t)
+  abbrev pub turn : Step A → List ℕ → Landed
+  turn q t = landed (answer q t) (cond (eqb (answer q t) 0) (stepped q t) t)
 
 -- the codes that have come, in their order, with one more
 unfoldable pub withCode : ℕ → List ℕ → List ℕ
 withCode c cs = cond (oneOf c cs) cs (cs ++ (c ∷ []))
 
--- messages, each a code and what it makes of a value, one after the other: the table after them, and one code's value with no table
-unfoldable pub turns : {A : Type 0} → Layout A → List (ℕ × (A → Option A)) → List ℕ → List ℕ
+-- steps one after the other: the table after them, and one code's value with no table
+unfoldable pub turns : {A : Type 0} → Layout A → List (Step A) → List ℕ → List ℕ
 turns L [] t = t
-turns L (m ∷ ms) t = turns L ms (turn L (m .0) (m .1) t .words)
+turns L (q ∷ qs) t = turns L qs (turn L q t .words)
 
 -- each of them is answered 0
-abbrev pub AllTaken : {A : Type 0} → Layout A → List (ℕ × (A → Option A)) → List ℕ → Type 0
+abbrev pub AllTaken : {A : Type 0} → Layout A → List (Step A) → List ℕ → Type 0
 AllTaken L [] t = Unit {0}
-AllTaken L (m ∷ ms) t = (answer L (m .0) (m .1) t ≡ 0) × AllTaken L ms (turn L (m .0) (m .1) t .words)
+AllTaken L (q ∷ qs) t = (answer L q t ≡ 0) × AllTaken L qs (turn L q t .words)
 
-unfoldable pub valueAfter : {A : Type 0} → ℕ → ℕ → (A → Option A) → A → A
-valueAfter c d step a = cond (eqb d c) (orAsItWas (step a) a) a
+unfoldable pub valueAfter : {A : Type 0} → ℕ → Step A → A → A
+valueAfter c q a = cond (eqb (q .code) c) (orAsItWas (q .makes a) a) a
 
-unfoldable pub valuesAfter : {A : Type 0} → ℕ → List (ℕ × (A → Option A)) → A → A
+unfoldable pub valuesAfter : {A : Type 0} → ℕ → List (Step A) → A → A
 valuesAfter c [] a = a
-valuesAfter c (m ∷ ms) a = valuesAfter c ms (valueAfter c (m .0) (m .1) a)
+valuesAfter c (q ∷ qs) a = valuesAfter c qs (valueAfter c q a)

@@ -33,3 +33,9 @@ module _ {A : Type 0} (L : Layout A) where
   placeTurn (Held k) c step t = within k t (slotTurn true c step (block L k t))
   placeTurn (Free k) c step t = within k t (slotTurn false c step (block L k t))
   placeTurn Full c step t = landed 17 t
+
+  -- and of a message that takes no slot
+  unfoldable pub heldTurn : Slot → ℕ → (A → Option A) → List ℕ → Landed
+  heldTurn (Held k) c step t = within k t (slotTurn true c step (block L k t))
+  heldTurn (Free k) c step t = landed 0 t
+  heldTurn Full c step t = landed 0 t
