@@ -1,29 +1,27 @@
 -- What a book message that is taken leaves: its own book whole, every other slot and book, the words behind the slots; and what a clearing
 -- leaves (slots/proofs/Values, Steps, Ours, Codes, of books). Assumes nothing.
 use Prim.Native.Nat.{ℕ, _*_, _≤_}
-use native.Mathlib.Omega.{arith}
-use mathlib.Core.Path.{_≡_, refl, ap}
-use mathlib.Core.Bool.{Bool, true, false, cond, _&&_}
+use mathlib.Core.Path.{_≡_}
+use mathlib.Core.Bool.{true, false, cond}
 use mathlib.Core.List.{List, []}
-use mathlib.Core.Option.{Option, some}
+use mathlib.Core.Option.{some}
 use lib.Dec.{T}
 use lib.ListN.{length, drop}
-use borrow.Author.Tests.{ltb-false}
-use Rattle.ground.proofs.Bools.{split}
 use Rattle.wire.specs.Number.{bytesOnly}
 use Rattle.slots.specs.Slots.{codeOf}
-use Rattle.slots.specs.Layout.{countIn, clearedIn, stepped, withCode, valueAfter}
+use Rattle.slots.specs.Layout.{Step, misfit, countIn, clearedIn, withCode, valueAfter}
 use Rattle.slots.specs.declared.Slot.the-variants.{Held, Free}
 use Rattle.slots.proofs.Values as values
 use Rattle.slots.proofs.Steps as steps
+use Rattle.slots.proofs.Steps.{Modest}
 use Rattle.slots.proofs.Codes as codes
 use Rattle.slots.proofs.Ours.{Ours, stepped-ours}
-use Rattle.ladder.specs.Message.{securityCode, noEntries, entriesAt, entriesFrom, entries}
-use Rattle.ladder.specs.Walk.{Book, emptyBook, walk, bookAfter}
+use Rattle.ladder.specs.Message.{securityCode, hasEntries}
+use Rattle.ladder.specs.Walk.{Book, emptyBook, bookAfter}
 use Rattle.ladder.specs.Words.{bookWidth, SoundBook}
-use Rattle.ladder.proofs.Walks.{walk-few}
+use Rattle.ladder.proofs.Walks.{book-few}
 use Rattle.ladder.proofs.Keeps.{book-sound}
-use Rattle.books.specs.Table.{books, placeIn, block, unsoundAt, noneFree, bookIn, bookStep, misfit, hasEntries, unsound, noSlot, misfits, booksAfter}
+use Rattle.books.specs.Table.{books, placeIn, block, unsoundAt, noneFree, bookIn, stepOf, bookStep, unsound, noSlot, misfits, booksAfter}
 use Rattle.books.proofs.Lawful.{lawful}
 
 -- every slot is sound; the slots have these codes, in their order, and the others are free
@@ -33,72 +31,72 @@ AllSound t = values.AllSound books t
 abbrev pub Filled : List ℕ → List ℕ → Type 0
 Filled t cs = codes.Filled books t cs
 
+-- a message with no entries leaves an empty book empty, and fits every book
+pub no-slot : (time : ℕ) (m : List ℕ) → Modest books (stepOf time m)
+no-slot time m e = rw (bookAfter, e)
+
+pub no-misfit : (time : ℕ) (m t : List ℕ) → hasEntries m ≡ false → misfits time m t ≡ false
+unfolding misfits misfit
+no-misfit time m t e = rw (bookAfter, e)
+
 module _ (time : ℕ) (m t : List ℕ) where
-  -- the message's code, what it makes of a book, and the table after it
+  -- the message's code, what it asks of the table, and the table after it
   abbrev c : ℕ
   c = securityCode m
 
-  abbrev step : Book → Option Book
-  step = bookAfter time m
+  abbrev asks : Step Book
+  asks = stepOf time m
 
   abbrev after : List ℕ
   after = booksAfter time m t
 
-  -- with entries, and with none
-  by-entries : (P : List ℕ → Type 0) → P (stepped books c step t) → P t → P after
-  unfolding booksAfter
-  by-entries P new same = split P (hasEntries m) _ t (λ e. new) (λ e. same)
-
   pub books-length : length after ≡ length t
-  books-length = by-entries (λ u. length u ≡ length t) (steps.stepped-length books c step t lawful) refl
+  unfolding booksAfter
+  books-length = steps.stepped-length books asks t lawful
 
   pub books-tail : drop (bookWidth * countIn books (length t)) after ≡ drop (bookWidth * countIn books (length t)) t
-  books-tail =
-      let n : ℕ = bookWidth * countIn books (length t) in
-      by-entries (λ u. drop n u ≡ drop n t) (steps.stepped-tail books c step t lawful) refl
+  unfolding booksAfter
+  books-tail = steps.stepped-tail books asks t lawful
 
   -- every slot but the one that the code has or takes
   pub books-slots : (j : ℕ) → (placeIn c t ≡ Held j → ⊥) → (placeIn c t ≡ Free j → ⊥) → block j after ≡ block j t
-  books-slots j nh nf = by-entries (λ u. block j u ≡ block j t) (steps.stepped-slots books c step t lawful j nh nf) refl
+  unfolding booksAfter
+  books-slots j nh nf = steps.stepped-slots books asks t lawful j nh nf
 
   -- no slot is freed
   pub books-codes : (j : ℕ) → (codeOf (block j t) ≡ 0 → ⊥) → codeOf (block j after) ≡ codeOf (block j t)
-  books-codes j nz = by-entries (λ u. codeOf (block j u) ≡ codeOf (block j t)) (steps.stepped-codes books c step t lawful j nz) refl
+  unfolding booksAfter
+  books-codes j nz = steps.stepped-codes books asks t lawful j nz
 
   pub books-other : (d : ℕ) → (c ≡ d → ⊥) → (d ≡ 0 → ⊥) → bookIn d after ≡ bookIn d t
-  books-other d ne nz = by-entries (λ u. bookIn d u ≡ bookIn d t) (steps.stepped-other books c step t lawful d ne nz) refl
+  unfolding booksAfter
+  books-other d ne nz = steps.stepped-other books asks t lawful d ne nz
 
   -- n words of which those behind the slots are zero stay so
   pub books-ours : (n : ℕ) → Ours books n t → Ours books n after
-  books-ours n o = by-entries (Ours books n) (stepped-ours books lawful n c step t o) o
+  unfolding booksAfter
+  books-ours n o = stepped-ours books lawful n asks t o
 
   -- codes take the slots in the order in which they come
-  pub books-filled : (cs : List ℕ) → (c ≡ 0 → ⊥) → Filled t cs → hasEntries m ≡ true → misfit (bookStep time m t) ≡ false
-      → length (withCode c cs) ≤ countIn books (length t) → Filled after (withCode c cs)
-  unfolding booksAfter
-  books-filled cs nz f e x l = rw e (codes.stepped-filled books c t cs f lawful nz step x l)
+  pub books-filled : (cs : List ℕ) → (c ≡ 0 → ⊥) → Filled t cs → misfits time m t ≡ false
+      → (hasEntries m ≡ true → length (withCode c cs) ≤ countIn books (length t)) → Filled after (cond (hasEntries m) (withCode c cs) cs)
+  unfolding booksAfter misfits
+  books-filled cs nz f x l = codes.stepped-filled books lawful asks t cs f nz x l
 
   -- every slot stays sound after a message of bytes
   pub books-sound : T (bytesOnly m) → AllSound t → AllSound after
-  books-sound bytes a = by-entries AllSound (steps.stepped-sound books c step t lawful (λ b b′ s e. book-sound time m b b′ bytes s e) a) a
+  unfolding booksAfter
+  books-sound bytes a = steps.stepped-sound books asks t lawful (λ b b′ s e. book-sound time m b b′ bytes s e) a
 
-  -- a message that is taken: its book is then what all its entries make of it
-  pub books-own : unsound m t ≡ false → noSlot m t ≡ false → misfits time m t ≡ false → bookStep time m t ≡ some (bookIn c after)
-  unfolding booksAfter unsound noSlot misfits entriesFrom walk
-  books-own = go (hasEntries m) refl
-    where
-      go : (b : Bool) → hasEntries m ≡ b → (b && unsoundAt (placeIn c t) t) ≡ false → (b && noneFree (placeIn c t)) ≡ false
-          → (b && misfit (bookStep time m t)) ≡ false → bookStep time m t ≡ some (bookIn c (cond b (stepped books c step t) t))
-      go true e s f g =
-          steps.stepped-own books c step t lawful (λ b b′ few q. walk-few time (entries m) b b′ q few) (record { sound = s; room = f; fits = g })
-      go false e s f g =
-          let n : noEntries m ≡ 0 = omega (arith, ltb-false 0 (noEntries m) e) in
-          ap (λ (k : ℕ). walk time (entriesFrom k 0 (drop entriesAt m)) (bookIn c t)) n
+  -- a message that is taken: its book is then what it makes of it
+  module _ (s : unsound m t ≡ false) (f : noSlot m t ≡ false) (g : misfits time m t ≡ false) where
+    pub books-own : bookStep time m t ≡ some (bookIn c after)
+    unfolding booksAfter unsound noSlot misfits
+    books-own = steps.stepped-own books asks t lawful (book-few time m) (no-slot time m) (record { sound = s; room = f; fits = g })
 
-  -- and so is every code's book, by the message alone and with no table
-  pub books-each : unsound m t ≡ false → noSlot m t ≡ false → misfits time m t ≡ false
-      → (d : ℕ) → (d ≡ 0 → ⊥) → bookIn d after ≡ valueAfter d c step (bookIn d t)
-  books-each s f g = steps.each-value books c step t after (books-own s f g) books-other
+    -- and so is every code's book, by the message alone and with no table
+    pub books-each : (d : ℕ) → (d ≡ 0 → ⊥) → bookIn d after ≡ valueAfter d asks (bookIn d t)
+    books-each = steps.each-value books asks t after books-own books-other
 
 -- where every slot is sound, so is every code's book, and 18 is not given
 pub book-sound-in : (c : ℕ) (t : List ℕ) → AllSound t → SoundBook (bookIn c t)

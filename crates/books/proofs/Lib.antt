@@ -3,3 +3,4 @@ pub mod Turning
 pub mod Showing
 pub mod Sides
 pub mod Frames
+pub mod Emptying

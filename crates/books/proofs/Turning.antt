@@ -2,24 +2,24 @@
 use Prim.Native.Nat.{ℕ, _+_, _-_, _*_, _≤_, _<_}
 use native.Mathlib.Omega.{arith}
 use mathlib.Core.Path.{_≡_, refl, sym, ap, _∙_}
-use mathlib.Core.Bool.{Bool, true, false}
+use mathlib.Core.Bool.{Bool, true, false, cond}
 use mathlib.Core.List.{List, [], _∷_}
 use mathlib.Core.Option.{Option, none, some}
 use lib.Dec.{leb}
 use lib.ListN.{length, take, drop, getD, length-drop}
 use lib.Seq.{take-all}
 use borrow.Author.Needs.{needs}
-use borrow.Author.Tests.{lt-leb, le-leb, lt-ltb}
+use borrow.Author.Tests.{lt-leb, le-leb, lt-ltb, le-ltb}
 use borrow.Rule.Slice.PartMut.{putMid}
-use Rattle.ground.specs.Choice.{first, all}
+use Rattle.ground.specs.Choice.{all}
 use Rattle.wire.specs.Number.{field}
 use Rattle.slots.specs.Layout.{landed, countIn, answer, turn}
-use Rattle.slots.specs.Code.Turns.{ready, startOf, settledIn, slotTurn, within, placeTurn}
+use Rattle.slots.specs.Code.Turns.{ready, startOf, settledIn, slotTurn, within, placeTurn, heldTurn}
 use Rattle.slots.proofs.Turning as slotted
-use Rattle.slots.proofs.Turning.{slotting, turn-is}
-use Rattle.ladder.specs.Message.{securityCode, noEntries, entriesFrom, listedCode, listedEntry, listedBook}
-use Rattle.ladder.specs.Walk.{Book, walk, bookAfter}
-use Rattle.ladder.specs.Words.{bookWidth, sound}
+use Rattle.slots.proofs.Turning.{slotting, turn-is, held-is}
+use Rattle.ladder.specs.Message.{noEntries, hasEntries, entriesFrom, entries, listedCode, listedEntry, listedBook}
+use Rattle.ladder.specs.Walk.{Book, emptyBook, walk, bookAfter}
+use Rattle.ladder.specs.Words.{bookWidth, sound, wordsOf}
 use Rattle.ladder.specs.Code.Arrays as arrays
 use Rattle.ladder.specs.Code.Arrays.{Sides}
 use Rattle.ladder.specs.Code.Loading.{settled, rowsIn}
@@ -27,8 +27,9 @@ use Rattle.ladder.specs.declared.Entry.{Entry}
 use Rattle.ladder.specs.declared.Row.{Row}
 use Rattle.ladder.proofs.Walks.{empty-sides}
 use Rattle.ladder.proofs.Tells.{sides-padded}
-use Rattle.books.specs.Table.{books, placeIn, block, hasEntries, unsound, noSlot, misfits, bookAnswer, booksAfter}
-use Rattle.books.specs.Code.Turns.{startRows, startCounts, bookTurn}
+use Rattle.books.specs.Table.{books, placeIn, block, stepOf, unsound, noSlot, misfits, bookAnswer, booksAfter}
+use Rattle.books.specs.Code.Turns.{startRows, startCounts, empties, bookTurn}
+use Rattle.books.proofs.Frames.{no-slot}
 
 pub long-part : (m : List ℕ) → 12 ≤ length m → take (length m - 12) (drop 12 m) ≡ drop 12 m
 long-part m h = take-all (length m - 12) (drop 12 m) (rw length-drop (omega arith))
@@ -79,16 +80,21 @@ module _ (own t : Bool) (w : List ℕ) (rows : List (List Row)) (counts : List �
       go true = refl
       go false = refl
 
+-- a code's own slot, emptied
+pub emptied-words : (b : Bool) (w u : List ℕ) (c : ℕ) → b ≡ sound w → b ≡ true → u ≡ wordsOf c emptyBook → landed 0 u ≡ slotTurn books true c empties w
+unfolding slotTurn
+emptied-words b w u c s y e = rw (sym s ∙ y, e)
+
 -- its part of the table, lent on
 pub slot-turn : (own : Bool) (k : ℕ) (t u : List ℕ) (c r : ℕ) (step : Book → Option Book) → k < countIn books (length t)
     → landed r u ≡ slotTurn books own c step (take (bookWidth * k + bookWidth - bookWidth * k) (drop (bookWidth * k) t))
     → landed r (putMid (bookWidth * k) (bookWidth * k + bookWidth - bookWidth * k) t u) ≡ within books k t (slotTurn books own c step (block k t))
 slot-turn = slotted.slot-turn books
 
--- the same on the table, where there are entries
-some-entries : (time : ℕ) (m t : List ℕ) → hasEntries m ≡ true → turn books (securityCode m) (bookAfter time m) t ≡ bookTurn time m t
+-- the same on the table
+table-turn : (time : ℕ) (m t : List ℕ) → turn books (stepOf time m) t ≡ bookTurn time m t
 unfolding bookAnswer booksAfter unsound noSlot misfits answer
-some-entries time m t n = rw n
+table-turn time m t = refl
 
 -- the part of a message from byte 12 on, as it is lent on
 abbrev partOf : List ℕ → List ℕ
@@ -107,19 +113,23 @@ module _ (m : List ℕ) (c : ℕ) (a : Bool) (ec : c ≡ field 4 4 m) (ea : a �
   good-code k b y ek h eb = rw (← ek, ← ec, ← long-part m (omega (arith, h)), ← ea, y) eb
 
 -- with no entries, and with some
-module _ (time : ℕ) (m t : List ℕ) (k : ℕ) (ek : k ≡ field 11 1 m) where
-  pub no-entries : k ≡ 0 → landed 0 t ≡ bookTurn time m t
-  unfolding bookAnswer booksAfter unsound noSlot misfits first
-  no-entries e =
-      let n : noEntries m ≡ 0 = sym ek ∙ e in
-      rw n
+module _ (time : ℕ) (m t : List ℕ) (k c r : ℕ) (u : List ℕ) (ek : k ≡ field 11 1 m) (ec : c ≡ field 4 4 m) where
+  -- what the message makes of a book, by whether it has entries
+  abbrev makes-by : Bool → Book → Option Book
+  makes-by more b = cond more (walk time (entries m) b) (some emptyBook)
 
-  pub placed-turn : (c r : ℕ) (u : List ℕ) → c ≡ field 4 4 m → length m ≡ 12 + 24 * noEntries m
-      → landed r u ≡ placeTurn books (placeIn c t) c (walk time (entriesFrom k 0 (partOf m))) t
+  pub emptied-turn : landed r u ≡ heldTurn books (placeIn c t) c empties t → k ≡ 0 → landed r u ≡ bookTurn time m t
+  emptied-turn q z =
+      let none : hasEntries m ≡ false = le-ltb 0 (noEntries m) (omega (arith, ek, z)) in
+      let makes : bookAfter time m ≡ empties = ap makes-by none in
+      q ∙ rw (ec, ← makes) (held-is books (stepOf time m) t (no-slot time m) none) ∙ table-turn time m t
+
+  pub placed-turn : length m ≡ 12 + 24 * noEntries m → landed r u ≡ placeTurn books (placeIn c t) c (walk time (entriesFrom k 0 (partOf m))) t
       → (k ≡ 0 → ⊥) → landed r u ≡ bookTurn time m t
-  placed-turn c r u ec h q nz =
+  placed-turn h q nz =
       let more : hasEntries m ≡ true = lt-ltb 0 (noEntries m) (omega (arith, ek, nz)) in
-      (rw (ec, ek, long-part m (omega (arith, h))) at q) ∙ turn-is books (securityCode m) (bookAfter time m) t ∙ some-entries time m t more
+      let makes : bookAfter time m ≡ walk time (entries m) = ap makes-by more in
+      (rw (ec, ek, long-part m (omega (arith, h))) at q) ∙ rw (← makes) (turn-is books (stepOf time m) t more) ∙ table-turn time m t
 
 pub ruleset turning = (
   needs,
@@ -136,6 +146,7 @@ pub ruleset turning = (
   slot-turn,
   bad-code,
   good-code,
-  no-entries,
+  emptied-words,
+  emptied-turn,
   placed-turn,
 )

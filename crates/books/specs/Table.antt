@@ -1,15 +1,14 @@
 -- A book message on the lent table of books (document 01, "The book table", "Entries, against a side of n rows"). Assumes nothing.
 use Prim.Native.Nat.{ℕ}
-use mathlib.Core.Bool.{Bool, cond, _&&_}
+use mathlib.Core.Bool.{Bool, _&&_}
 use mathlib.Core.List.{List, [], _∷_}
 use mathlib.Core.Option.{Option}
-use lib.Dec.{ltb}
 use Rattle.ground.specs.Choice.{first}
 use Rattle.slots.specs.Slots.{maxSlots}
 use Rattle.slots.specs.Layout as table
-use Rattle.slots.specs.Layout.{Layout, stepped}
+use Rattle.slots.specs.Layout.{Layout, Step, stepped}
 use Rattle.slots.specs.declared.Slot.{Slot}
-use Rattle.ladder.specs.Message.{securityCode, noEntries}
+use Rattle.ladder.specs.Message.{securityCode, hasEntries}
 use Rattle.ladder.specs.Walk.{Book, emptyBook, bookAfter}
 use Rattle.ladder.specs.Words.{bookWidth, bookOf, wordsOf, sound}
 
@@ -41,7 +40,11 @@ bookAt p t = table.valueAt books p t
 abbrev pub bookIn : ℕ → List ℕ → Book
 bookIn c t = bookAt (placeIn c t) t
 
--- the code's book after a message that comes at a time
+-- what a message that comes at a time asks of the table: "NoEntries 0 .. takes no slot", and by document 02, request 1, "it still takes no slot"
+abbrev pub stepOf : ℕ → List ℕ → Step Book
+stepOf time m = record { code = securityCode m; takes = hasEntries m; makes = bookAfter time m }
+
+-- the code's book after it
 abbrev pub bookStep : ℕ → List ℕ → List ℕ → Option Book
 bookStep time m t = bookAfter time m (bookIn (securityCode m) t)
 
@@ -49,18 +52,16 @@ bookStep time m t = bookAfter time m (bookIn (securityCode m) t)
 abbrev pub misfit : Option Book → Bool
 misfit r = table.misfit r
 
--- "with NoEntries 0, answers 18, 17 and 16 aren't given"
-abbrev pub hasEntries : List ℕ → Bool
-hasEntries m = ltb 0 (noEntries m)
-
+-- Document 01: "with NoEntries 0, answers 18, 17 and 16 aren't given". Document 02, request 1: "Answer 18 now applies to it where the book exists
+-- and is not sound", it "can't be 17", and nothing of it can fail to fit
 unfoldable pub unsound : List ℕ → List ℕ → Bool
-unsound m t = hasEntries m && unsoundAt (placeIn (securityCode m) t) t
+unsound m t = unsoundAt (placeIn (securityCode m) t) t
 
 unfoldable pub noSlot : List ℕ → List ℕ → Bool
 noSlot m t = hasEntries m && noneFree (placeIn (securityCode m) t)
 
 unfoldable pub misfits : ℕ → List ℕ → List ℕ → Bool
-misfits time m t = hasEntries m && misfit (bookStep time m t)
+misfits time m t = misfit (bookStep time m t)
 
 -- what a book message is answered on a table by itself: 18, 17, 16 or 0, in that order
 unfoldable pub bookAnswer : ℕ → List ℕ → List ℕ → ℕ
@@ -72,10 +73,7 @@ bookAnswer time m t =
     ∷ [])
     0
 
--- the table with a code's book written to its slot, "and the whole block is written"
-abbrev pub written : Slot → ℕ → Option Book → List ℕ → List ℕ
-written p c r t = table.written books p c r t
-
--- the table after a message that is taken: "NoEntries 0 is taken, changes no book and takes no slot"
+-- the table after a message that is taken: the code's book "and the whole block is written" to its slot. (Document 01: "NoEntries 0 is taken, changes
+-- no book and takes no slot". Document 02, request 1: it empties the code's book, and a code without one still takes no slot.)
 unfoldable pub booksAfter : ℕ → List ℕ → List ℕ → List ℕ
-booksAfter time m t = cond (hasEntries m) (stepped books (securityCode m) (bookAfter time m) t) t
+booksAfter time m t = stepped books (stepOf time m) t

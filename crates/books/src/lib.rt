@@ -1,16 +1,16 @@
 // The lent table of books (document 01, "The book table"): a book message on it, and reading a row, or a side's rows, out of it.
 ghost use mathlib.Core.Path.{_≡_};
-ghost use mathlib.Core.Bool.{_&&_};
+ghost use mathlib.Core.Bool.{true, _&&_};
 ghost use Prim.Native.Nat.{_+_, _-_, _*_, _<_, _≤_};
 ghost use lib.ListN.{length, drop};
 ghost use Rattle.slots.specs.Layout.{landed, countIn, clearedIn};
-ghost use Rattle.slots.specs.Code.Turns.{ready, slotTurn, within, placeTurn};
+ghost use Rattle.slots.specs.Code.Turns.{ready, slotTurn, within, placeTurn, heldTurn};
 ghost use Rattle.ladder.specs.Message.{depth, noEntries, entriesAt, entrySize, entriesFrom, listedCode, listedBook, listedSide, listedRank};
 ghost use Rattle.ladder.specs.Walk.{walk};
 ghost use Rattle.ladder.specs.Words.{bookWidth, rowWidth, sideWidth, rowOf};
 ghost use Rattle.wire.specs.Number.{word32};
 ghost use Rattle.books.specs.Table.{books, placeIn, block as blockOf};
-ghost use Rattle.books.specs.Code.Turns.{startRows, startCounts, bookTurn};
+ghost use Rattle.books.specs.Code.Turns.{startRows, startCounts, empties, bookTurn};
 ghost use Rattle.books.specs.Reading.{rowRefused, levelOf};
 ghost use Rattle.books.specs.Code.Rows.{rowOfSide, rowOfBook, Priced, sideRefused, sideOfWords, sideOfBook};
 ghost use Rattle.books.specs.Contracts.{RowSays, SideSays};
@@ -123,6 +123,39 @@ fn placed(table: &mut [u64], code: u64, part: &[u8], n: usize, time: u64) -> u64
     }
 }
 
+// A slot's words emptied, the code's own: 18 where its book is not sound.
+fn emptied_words(words: &mut [u64], code: u64) -> u64
+    requires { ⌜ length (now words) ≡ bookWidth ⌝ }
+    ensures { λ r. ⌜ landed r (now (words .exit)) ≡ slotTurn books true code empties (now (words .entry)) ⌝ }
+{
+    if ladder::is_sound(words) {
+        ladder::empty(words, code);
+        return 0;
+    }
+    18
+}
+
+// A code's own slot of the table emptied.
+fn emptied_slot(table: &mut [u64], k: usize, code: u64) -> u64
+    requires { ⌜ k < countIn books (length (now table)) ⌝ }
+    ensures { λ r. ⌜ landed r (now (table .exit)) ≡ within books k (now (table .entry)) (slotTurn books true code empties (blockOf k (now (table .entry)))) ⌝ }
+{
+    let a = BOOK_WORDS * k;
+    let b = a + BOOK_WORDS;
+    emptied_words(&mut table[a..b], code)
+}
+
+// A code's book emptied, in the lowest slot with the code; a code without one takes no slot.
+fn emptied(table: &mut [u64], code: u64) -> u64
+    ensures { λ r. ⌜ landed r (now (table .exit)) ≡ heldTurn books (placeIn code (now (table .entry))) code empties (now (table .entry)) ⌝ }
+{
+    let slot = slots::find(table, MOST, BOOK_WORDS, code);
+    let Slot::Held(k) = slot else {
+        return 0;
+    };
+    emptied_slot(table, k, code)
+}
+
 // Whether a code is one of 1 to 99,999.
 fn is_code(code: u64) -> bool
     ensures { λ r. ⌜ r ≡ listedCode code ⌝ }
@@ -159,10 +192,10 @@ pub fn take(table: &mut [u64], m: &[u8], time: u64) -> u64
     ensures { λ r. ⌜ landed r (now (table .exit)) ≡ bookTurn time (now (m .entry)) (now (table .entry)) ⌝ }
 {
     let n = wire::u8_in(m, ladder::NO_ENTRIES_AT) as usize;
-    if n == 0 {
-        return 0;
-    }
     let code = wire::u32_in(m, ladder::CODE_AT);
+    if n == 0 {
+        return emptied(table, code);
+    }
     let part = &m[ladder::ENTRIES_AT..];
     placed(table, code, part, n, time)
 }

@@ -23,6 +23,7 @@ use Rattle.ladder.specs.declared.Row.{Row}
 use Rattle.ladder.specs.declared.Entry.{Entry}
 use Rattle.ladder.proofs.Shift.{ins, length-del}
 use Rattle.ladder.proofs.Fits.{fit-rank}
+use Rattle.ladder.proofs.Walks.{after-keeps}
 use Rattle.ladder.proofs.Orders.{best-take, best-ins, best-set, best-del, all-take, all-ins, all-del}
 
 -- a side of no rows is sound
@@ -173,4 +174,4 @@ entries-bounded m h = from-bounded (field 11 1 m) 0 (drop entriesAt m) (bytes-dr
 
 -- a message of bytes leaves a sound book sound
 pub book-sound : (time : ℕ) (m : List ℕ) (b b′ : Book) → T (bytesOnly m) → SoundBook b → bookAfter time m b ≡ some b′ → SoundBook b′
-book-sound time m b b′ h p q = walk-sound time (entries m) b b′ q p (entries-bounded m h)
+book-sound time m b b′ h p q = after-keeps SoundBook time m b b′ q (λ w. walk-sound time (entries m) b b′ w p (entries-bounded m h)) empty-sound

@@ -13,10 +13,10 @@ use borrow.Author.Tests.{le-leb, lt-leb, eq-eqb, ne-eqb}
 use Rattle.ground.specs.Choice.{oneOf, pick, all}
 use Rattle.wire.specs.Number.{field, biased}
 use Rattle.ground.proofs.Bools.{cond-same, split}
-use Rattle.slots.specs.Layout.{landed}
-use Rattle.ladder.specs.Message.{depth, entrySize, entryOf, entryAt, entriesFrom, listedEntry, listedSide, listedRank}
+use Rattle.slots.specs.Layout.{landed, orAsItWas}
+use Rattle.ladder.specs.Message.{depth, entrySize, entryOf, entryAt, entriesFrom, hasEntries, entries, listedEntry, listedSide, listedRank}
 use Rattle.ladder.specs.Sides.{noRow, newRows, changeRows, deleteRows, fits, rowsAfter, onSide}
-use Rattle.ladder.specs.Walk.{Book, emptyBook, withBids, withOffers, onBook, walk}
+use Rattle.ladder.specs.Walk.{Book, emptyBook, withBids, withOffers, onBook, walk, bookAfter}
 use Rattle.ladder.specs.Code.Arrays.{Side, live, Padded, sideAt, asBook, Sides, emptyRows, emptyCounts, wayOf, fitsAt, tenAfter, countAfter}
 use Rattle.ladder.specs.Code.Loading.{settled}
 use Rattle.ladder.specs.Words.{bookWidth, noRows, wordsOf}
@@ -196,6 +196,9 @@ pub empty-sides : Sides emptyRows emptyCounts
 unfolding noRows
 empty-sides = record { bids = padded-of [] (omega arith); offers = padded-of [] (omega arith) }
 
+pub no-sides : (rows : List (List Row)) → rows ≡ emptyRows → Sides rows emptyCounts
+no-sides rows e = rw e empty-sides
+
 -- each of the two sides is padded
 pub side-padded : (rows : List (List Row)) (counts : List ℕ) (k : ℕ) → Sides rows counts → k ≤ 1 → Padded (sideAt k rows counts)
 side-padded rows counts zero p h = p .bids
@@ -323,3 +326,17 @@ few-walk time (e ∷ es) b h = go (onBook time e b) (few-on time e b h) (few-wal
 -- the walk keeps at most ten rows a side
 pub walk-few : (time : ℕ) (es : List Entry) (b b′ : Book) → walk time es b ≡ some b′ → Few b → Few b′
 walk-few time es b b′ e h = subst FewIn e (few-walk time es b h)
+
+-- a message: what its walk keeps, and an empty book has, the book has that it leaves
+pub after-keeps : (P : Book → Type 0) (time : ℕ) (m : List ℕ) (b b′ : Book) → bookAfter time m b ≡ some b′ → (walk time (entries m) b ≡ some b′ → P b′)
+    → P emptyBook → P b′
+unfolding orAsItWas
+after-keeps P time m b b′ e walked empty = go (hasEntries m) e
+  where
+    go : (more : Bool) → cond more (walk time (entries m) b) (some emptyBook) ≡ some b′ → P b′
+    go true e = walked e
+    go false e = subst P (ap (λ (r : Option Book). orAsItWas r emptyBook) e) empty
+
+-- and so does a message
+pub book-few : (time : ℕ) (m : List ℕ) (b b′ : Book) → Few b → bookAfter time m b ≡ some b′ → Few b′
+book-few time m b b′ h e = after-keeps Few time m b b′ e (λ w. walk-few time (entries m) b b′ w h) (omega arith, omega arith)

@@ -3,7 +3,7 @@ use Prim.Native.Nat.{ℕ, zero, suc, _+_, _*_}
 use mathlib.Core.Bool.{Bool, _&&_, _||_}
 use mathlib.Core.List.{List, [], _∷_}
 use lib.ListN.{length, drop}
-use lib.Dec.{leb, eqb}
+use lib.Dec.{ltb, leb, eqb}
 use Rattle.ground.specs.Choice.{oneOf, all}
 use Rattle.wire.specs.Number.{field, biased}
 use Rattle.ladder.specs.declared.Entry.{Entry}
@@ -14,6 +14,9 @@ securityCode m = field 4 4 m
 
 abbrev pub noEntries : List ℕ → ℕ
 noEntries m = field 11 1 m
+
+abbrev pub hasEntries : List ℕ → Bool
+hasEntries m = ltb 0 (noEntries m)
 
 -- where the entries begin, and how long one is
 abbrev pub entriesAt : ℕ

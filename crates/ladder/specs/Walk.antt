@@ -5,7 +5,7 @@ use mathlib.Core.List.{List, [], _∷_}
 use mathlib.Core.Option.{Option, none, some, Option·map, bind}
 use lib.Dec.{eqb}
 use Rattle.ground.specs.Choice.{pick}
-use Rattle.ladder.specs.Message.{bidSide, offerSide, clear, entries}
+use Rattle.ladder.specs.Message.{bidSide, offerSide, clear, hasEntries, entries}
 use Rattle.ladder.specs.Sides.{onSide}
 use Rattle.ladder.specs.declared.Way.the-variants.{Bid, Offer}
 use Rattle.ladder.specs.declared.Row.{Row}
@@ -40,6 +40,7 @@ unfoldable pub walk : ℕ → List Entry → Book → Option Book
 walk time [] b = some b
 walk time (e ∷ es) b = bind (onBook time e b) (walk time es)
 
--- a book after a message that comes at a time
+-- a book after a message that comes at a time. (Document 01: a message with NoEntries 0 "changes no book". Document 02, request 1: "From now on ..
+-- it empties both sides of that code's book".)
 abbrev pub bookAfter : ℕ → List ℕ → Book → Option Book
-bookAfter time m b = walk time (entries m) b
+bookAfter time m b = cond (hasEntries m) (walk time (entries m) b) (some emptyBook)

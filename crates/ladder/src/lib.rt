@@ -7,6 +7,7 @@ mod words;
 pub use entries::all_listed;
 pub use sides::no_rows;
 pub use walking::walk;
+pub use words::empty;
 pub use words::is_sound;
 pub use words::load_rows;
 pub use words::row_at;

@@ -10,6 +10,7 @@ use super::SPARE_AT;
 use super::Way;
 use super::sides::LAST;
 use super::sides::is_better;
+use super::sides::no_rows;
 use super::sides::word_if;
 use super::sides::zero_row;
 ghost use mathlib.Core.Path.{_≡_};
@@ -19,6 +20,7 @@ ghost use lib.ListN.{length, drop};
 ghost use Rattle.ladder.specs.Code.Arrays.{Sides, asBook};
 ghost use Rattle.slots.specs.Slots.{flat};
 ghost use Rattle.slots.specs.Code.Overlay.{overlay};
+ghost use Rattle.ladder.specs.Walk.{emptyBook};
 ghost use Rattle.ladder.specs.Words.{bookWidth, sideWidth, bidCount, offerCount, bidsAt, offersAt, rowWidth, rowOf, rowWords, rowsFrom, wordsOf, soundSide, sound};
 ghost use Rattle.ladder.specs.declared.Way.the-variants.{Bid, Offer};
 ghost use Rattle.ladder.specs.Code.Loading.{rowsIn, inOrder, soundWords};
@@ -170,4 +172,12 @@ pub(crate) fn write_book(block: &mut [u64], code: u64, rows: [[Row; DEPTH]; 2], 
     block[SPARE_AT] = 0;
     write_side(block, BIDS_AT, rows[0]);
     write_side(block, OFFERS_AT, rows[1]);
+}
+
+// A code's book emptied: both counts 0, all rows zero.
+pub fn empty(block: &mut [u64], code: u64)
+    requires { ⌜ length (now block) ≡ bookWidth ⌝ }
+    ensures { λ _. ⌜ now (block .exit) ≡ wordsOf code emptyBook ⌝ }
+{
+    write_book(block, code, no_rows(), [0; 2]);
 }

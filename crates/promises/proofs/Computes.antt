@@ -30,6 +30,7 @@ use Rattle.promises.specs.Checks as promises-Checks
 use Rattle.promises.specs.Decisions as promises-Decisions
 use Rattle.promises.specs.Demands as promises-Demands
 use Rattle.promises.specs.Desk as promises-Desk
+use Rattle.promises.specs.Emptied as promises-Emptied
 use Rattle.promises.specs.Entries as promises-Entries
 use Rattle.promises.specs.GoodMorning as promises-GoodMorning
 use Rattle.promises.specs.Leaves as promises-Leaves
@@ -59,7 +60,7 @@ unfolding wire-Units.unitOf
 wire-units = 0
 
 unfoldable slots-code-turns : ℕ
-unfolding slots-Code-Turns.slotTurn slots-Code-Turns.placeTurn
+unfolding slots-Code-Turns.slotTurn slots-Code-Turns.placeTurn slots-Code-Turns.heldTurn
 slots-code-turns = 0
 
 unfoldable slots-layout : ℕ
@@ -162,6 +163,10 @@ unfoldable promises-desk : ℕ
 unfolding promises-Desk.example1 promises-Desk.words1 promises-Desk.tenEntries promises-Desk.tenRows promises-Desk.alone promises-Desk.next promises-Desk.live promises-Desk.spoilt promises-Desk.desk
 promises-desk = 0
 
+unfoldable promises-emptied : ℕ
+unfolding promises-Emptied.emptying promises-Emptied.full promises-Emptied.empty promises-Emptied.garbage promises-Emptied.leaves promises-Emptied.unsound promises-Emptied.unlisted promises-Emptied.emptied promises-Emptied.without promises-Emptied.live promises-Emptied.liveWithout promises-Emptied.refreshing promises-Emptied.refreshingWithout promises-Emptied.around promises-Emptied.days
+promises-emptied = 0
+
 unfoldable promises-entries : ℕ
 unfolding promises-Entries.makes promises-Entries.not promises-Entries.bids promises-Entries.offers promises-Entries.news promises-Entries.changes promises-Entries.deletes promises-Entries.walks
 promises-entries = 0
@@ -223,5 +228,5 @@ unfolding promises-Widths.widths
 promises-widths = 0
 
 unfoldable pub computes : ℕ
-unfolding bind ground-choice wire-number wire-units slots-code-turns slots-layout slots-slots ladder-code-arrays ladder-code-loading ladder-message ladder-sides ladder-walk ladder-words books-code-rows books-reading books-table feed-answers feed-code-judging feed-events feed-feeds feed-messages feed-program feed-reasons feed-steps promises-answering promises-build promises-checks promises-decisions promises-demands promises-desk promises-entries promises-goodmorning promises-leaves promises-ledger promises-mornings promises-phases promises-pieces promises-refusals promises-runs promises-section6 promises-sizes promises-statuses promises-tables promises-traps promises-widths
+unfolding bind ground-choice wire-number wire-units slots-code-turns slots-layout slots-slots ladder-code-arrays ladder-code-loading ladder-message ladder-sides ladder-walk ladder-words books-code-rows books-reading books-table feed-answers feed-code-judging feed-events feed-feeds feed-messages feed-program feed-reasons feed-steps promises-answering promises-build promises-checks promises-decisions promises-demands promises-desk promises-emptied promises-entries promises-goodmorning promises-leaves promises-ledger promises-mornings promises-phases promises-pieces promises-refusals promises-runs promises-section6 promises-sizes promises-statuses promises-tables promises-traps promises-widths
 computes = 0

@@ -1,25 +1,29 @@
 -- The customer's demands, proved: each is named as its statement in specs/Demands, with a small letter. Assumes nothing.
 use Prim.Native.Nat.{ℕ, zero}
-use mathlib.Core.Path.{_≡_, refl, sym, ap, subst}
+use mathlib.Core.Path.{_≡_, refl, sym, ap, _∙_, subst}
 use mathlib.Core.Bool.{Bool, true, false, cond, not}
 use mathlib.Core.Logic.{_⊎_, inl, inr, ⊎-elim}
 use mathlib.Core.List.{List, [], _∷_}
+use mathlib.Core.Option.{Option, some}
 use lib.Dec.{T, leb, eqb}
 use borrow.Author.Tests.{not-false, eqb-true, leb-true}
 use Rattle.ground.specs.Choice.{oneOf, first, all}
-use Rattle.ground.proofs.Bools.{both, split, is-T}
+use Rattle.ground.proofs.Bools.{both, join, no-second, split, is-T}
 use Rattle.ground.proofs.Choices.{first-may, first-skips}
+use Rattle.slots.specs.Layout.{orAsItWas}
+use Rattle.ladder.specs.Message.{securityCode, listedCode, listedSide, listedRank, listedBook}
 use Rattle.books.specs.Table.{bookIn, unsound, noSlot, misfits, booksAfter}
-use Rattle.books.proofs.Frames.{books-own, books-slots, books-other, books-length, books-tail, book-sound-in}
+use Rattle.books.proofs.Frames.{no-misfit, books-own, books-slots, books-other, books-length, books-tail, book-sound-in}
+use Rattle.books.proofs.Emptying.{emptied-held, emptied-none, looks-empty}
 use Rattle.ladder.proofs.Orders.{price-once}
-use Rattle.ladder.specs.Walk.{Book}
+use Rattle.ladder.specs.Walk.{Book, emptyBook, bookAfter}
 use Rattle.ladder.specs.declared.Way.the-variants.{Bid, Offer}
 use Rattle.books.specs.Reading.{readAnswer, readRow}
 use Rattle.books.specs.declared.RowRead.{RowRead}
-use Rattle.feed.specs.Messages.{kind, onMarket, book}
+use Rattle.feed.specs.Messages.{kind, onMarket, book, listed as listedOf}
 use Rattle.feed.specs.Feeds.{listedLimit, newFeed, newGiven}
 use Rattle.feed.specs.Events.{State, Event, News, Message, timeOf, onMessage}
-use Rattle.feed.specs.Answers.{number, isNext, lineTests, tableTests, tests, answerTo, reply, ofBook}
+use Rattle.feed.specs.Answers.{number, arrives, lacksNeed, isMore, isNext, lineTests, tableTests, tests, answerTo, reply, ofBook}
 use Rattle.feed.specs.Steps.{tablesAfter, does, taken, act, accepted, handed, outcome}
 use Rattle.feed.specs.declared.Answer.{Answer}
 use Rattle.feed.specs.declared.Answer.the-variants.{Keep, Lose, Spoil, Skip, Take}
@@ -122,6 +126,9 @@ module _ (s : State) (e : Event) (m : List ℕ) (t : D.Taken s e m) where
   unfolding ofBook onMarket book
   of-book b h = rw (t .book) at h
 
+  code-listed : listedBook m ≡ true
+  code-listed = unfold listedOf in (rw (t .book) at (known .fields))
+
   sound-known : unsound m (s .tables .books) ≡ false
   sound-known = of-book (unsound m (s .tables .books)) (known .sound)
 
@@ -141,6 +148,38 @@ others s e m t = (
   rw (table-after s e m t) (books-length (timeOf e) m (s .tables .books)),
   rw (table-after s e m t) (books-tail (timeOf e) m (s .tables .books)),
 )
+
+-- a message with no entries
+pub emptied : D.Emptied
+unfolding orAsItWas
+emptied s e m t none =
+    let own : some emptyBook ≡ some (bookIn (securityCode m) (D.behind s e)) = rw (bookAfter, none) at (whole s e m t) in (
+      ap (λ (r : Option Book). orAsItWas r emptyBook) (sym own),
+      λ k h. table-after s e m t ∙ emptied-held (timeOf e) m (s .tables .books) none k h,
+      λ n. table-after s e m t ∙ emptied-none (timeOf e) m (s .tables .books) none n,
+    )
+
+pub looksEmpty : D.LooksEmpty
+unfolding listedBook
+looksEmpty s e m t none side rank a b =
+    let code = both (listedCode (securityCode m)) _ (code-listed s e m t) .0 in
+    ap (readRow (securityCode m) side rank) (table-after s e m t)
+    ∙ looks-empty (timeOf e) m (s .tables .books) none side rank (join _ (listedRank rank) (join (listedCode (securityCode m)) (listedSide side) code a) b)
+
+-- neither 17 nor 16
+isNot : ℕ → Answer → Bool
+isNot n a = not (eqb (number a) n)
+
+pub emptyFits : D.EmptyFits
+unfolding outcome handed isNot tests lineTests tableTests all onMessage arrives lacksNeed isMore number
+emptyFits s e seq internal m b none =
+    let ts : List (Bool × Answer) = tests (s .feed) (s .tables) (timeOf e) (Message seq internal m) in
+    let room : ofBook (kind m) (noSlot m (s .tables .books)) ≡ false = unfold ofBook noSlot in no-second (onMarket book (kind m)) _ (rw none) in
+    let fit : ofBook (kind m) (misfits (timeOf e) m (s .tables .books)) ≡ false =
+    unfold ofBook in no-second (onMarket book (kind m)) _ (no-misfit (timeOf e) m (s .tables .books) none) in (
+      λ q. subst (λ (k : ℕ). T (not (eqb k 17))) q (rw b (first-may (isNot 17) ts (Take 0) (rw room tt) tt)),
+      λ q. subst (λ (k : ℕ). T (not (eqb k 16))) q (rw b (first-may (isNot 16) ts (Take 0) (rw fit tt) tt)),
+    )
 
 -- DEMAND 3
 pub replayed : D.Replayed

@@ -11,6 +11,7 @@ use Rattle.promises.specs.Sizes as Sizes
 use Rattle.promises.specs.Entries as Entries
 use Rattle.promises.specs.Widths as Widths
 use Rattle.promises.specs.Tables as Tables
+use Rattle.promises.specs.Emptied as Emptied
 use Rattle.promises.specs.Traps as Traps
 use Rattle.promises.specs.Mornings as Mornings
 use Rattle.promises.proofs.Computes.{computes}
@@ -146,6 +147,30 @@ sounds-hold = refl
 pub rows-hold : wrong Tables.rows ≡ []
 unfolding computes
 rows-hold = refl
+
+pub emptiedLive-hold : wrong Emptied.live ≡ []
+unfolding computes
+emptiedLive-hold = refl
+
+pub emptiedLiveWithout-hold : wrong Emptied.liveWithout ≡ []
+unfolding computes
+emptiedLiveWithout-hold = refl
+
+pub emptiedRefreshing-hold : wrong Emptied.refreshing ≡ []
+unfolding computes
+emptiedRefreshing-hold = refl
+
+pub emptiedRefreshingWithout-hold : wrong Emptied.refreshingWithout ≡ []
+unfolding computes
+emptiedRefreshingWithout-hold = refl
+
+pub emptiedAround-hold : wrong Emptied.around ≡ []
+unfolding computes
+emptiedAround-hold = refl
+
+pub emptiedDays-hold : wrong Emptied.days ≡ []
+unfolding computes
+emptiedDays-hold = refl
 
 pub traps-hold : wrong Traps.traps ≡ []
 unfolding computes

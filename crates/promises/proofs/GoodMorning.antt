@@ -10,10 +10,10 @@ use borrow.Author.Tests.{not-true, eqb-true, leb-true, le-leb, le-ltb}
 use Rattle.ground.specs.Choice.{oneOf, pick, first, all}
 use Rattle.ground.proofs.Bools.{both, of-T, two}
 use Rattle.slots.specs.Layout.{countIn, clearedIn, withCode}
-use Rattle.ladder.specs.Message.{securityCode, listedCode, listedEntry, listedBook, entries}
+use Rattle.ladder.specs.Message.{securityCode, hasEntries, listedCode, listedEntry, listedBook, entries}
 use Rattle.ladder.specs.Walk.{emptyBook, bookAfter}
-use Rattle.books.specs.Table.{books, placeIn, noneFree, bookIn, bookStep, misfit, hasEntries, noSlot, misfits, unsound, booksAfter}
-use Rattle.books.proofs.Frames.{Filled, none-filled, room, books-filled}
+use Rattle.books.specs.Table.{books, placeIn, noneFree, bookIn, misfit, noSlot, misfits, unsound, booksAfter}
+use Rattle.books.proofs.Frames.{Filled, none-filled, room, no-misfit, books-filled}
 use Rattle.feed.specs.Messages.{kind, onMarket, market, book, wrongSize, listed, statusOf, logonStatus}
 use Rattle.feed.specs.Feeds.{is, deaf, internalIs, badgeNo, badge, badgeOf, listedLimit}
 use Rattle.feed.specs.Events.{Tables, State, Event, Connect, News, Linked, More, Heartbeat, Message, news, timeOf, onMessage}
@@ -193,14 +193,16 @@ module _ (time : ℕ) (m t : List ℕ) (w : Talk) (nz : securityCode m ≡ 0 →
     where
       go : (b : Bool) → hasEntries m ≡ b
           → (not b || (leb (length (withCode (securityCode m) (w .codes))) (countIn books (length t)) && not (misfit (bookAfter time m (replayOn (securityCode m) (w .deeds) emptyBook))))) ≡ true
-          → ((b && noneFree (placeIn (securityCode m) t)) ≡ false) × ((b && misfit (bookStep time m t)) ≡ false)
-          × Filled (booksAfter time m t) (cond b (withCode (securityCode m) (w .codes)) (w .codes))
+          → ((b && noneFree (placeIn (securityCode m) t)) ≡ false) × (misfits time m t ≡ false)
+          × Filled (booksAfter time m t) (cond (hasEntries m) (withCode (securityCode m) (w .codes)) (w .codes))
       go true e f =
           let q = both (leb (length (withCode (securityCode m) (w .codes))) (countIn books (length t))) _ f in
           let l = leb-true (length (withCode (securityCode m) (w .codes))) (countIn books (length t)) (q .0) in
-          let x : misfit (bookStep time m t) ≡ false = rw same (not-true (misfit (bookAfter time m (replayOn (securityCode m) (w .deeds) emptyBook))) (q .1)) in
-          (room (securityCode m) t (w .codes) filled l, x, books-filled time m t (w .codes) nz filled e x l)
-      go false e f = (refl, refl, rw e filled)
+          let x : misfits time m t ≡ false = rw same (not-true (misfit (bookAfter time m (replayOn (securityCode m) (w .deeds) emptyBook))) (q .1)) in
+          (room (securityCode m) t (w .codes) filled l, x, books-filled time m t (w .codes) nz filled x (λ y. l))
+      go false e f =
+          let x = no-misfit time m t e in
+          (refl, x, books-filled time m t (w .codes) nz filled x (λ y. absurd (true≢false (sym y ∙ e))))
 
 -- what a message leaves
 opened : (s : State) (h : History) (w : Talk) (b c : Bool) → b ≡ true → c ≡ true → s .feed .fresh ≡ true → Told NeedsLogon (s .feed .internal) (s .tables .books) (h .deeds) (w .last) (w .deeds) (w .codes)

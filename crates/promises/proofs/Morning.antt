@@ -11,7 +11,7 @@ use Rattle.wire.specs.declared.Unit.{Unit}
 use Rattle.wire.specs.declared.Unit.the-variants as unit
 use Rattle.ground.proofs.Bools.{both, split, no-second, two}
 use Rattle.ground.proofs.Choices.{first-may, each-has}
-use Rattle.books.specs.Table.{unsound, hasEntries}
+use Rattle.books.specs.Table.{unsound}
 use Rattle.books.proofs.Frames.{AllSound, never-unsound}
 use Rattle.ladder.specs.Message.{securityCode}
 use Rattle.feed.specs.Messages.{kind, onMarket, book, statusOf, logonStatus}
@@ -40,7 +40,7 @@ notEighteen a = not (eqb (number a) 18)
 
 pub sound-row : (m t : List ℕ) (k : Kind) → AllSound t → ofBook k (unsound m t) ≡ false
 unfolding ofBook unsound
-sound-row m t k a = no-second (onMarket book k) _ (no-second (hasEntries m) _ (never-unsound (securityCode m) t a))
+sound-row m t k a = no-second (onMarket book k) _ (never-unsound (securityCode m) t a)
 
 no-eighteen : (s : State) (time : ℕ) → AllSound (s .tables .books) → (n : News) → T (notEighteen (answerTo (s .feed) (s .tables) time n))
 unfolding notEighteen tests lineTests tableTests all onMessage arrives lacksNeed isMore number

@@ -5,21 +5,22 @@ use mathlib.Core.Bool.{Bool, true, false, not, _&&_}
 use mathlib.Core.List.{List, [], _∷_, _++_}
 use mathlib.Core.Logic.{_⊎_}
 use mathlib.Core.Option.{some}
-use lib.ListN.{length, drop, getD}
+use lib.ListN.{length, drop, getD, replicate}
 use lib.Dec.{T}
 use Rattle.ground.specs.Choice.{oneOf, all}
 use Rattle.wire.specs.Number.{bytesOnly}
 use Rattle.wire.specs.Units.{unitOf}
 use Rattle.wire.specs.declared.Unit.the-variants as unit
+use Rattle.slots.specs.Slots.{put}
 use Rattle.slots.specs.Layout.{countIn, slotsIn}
 use Rattle.slots.specs.declared.Slot.the-variants.{Held, Free}
-use Rattle.ladder.specs.Message.{securityCode}
+use Rattle.ladder.specs.Message.{securityCode, hasEntries, listedSide, listedRank}
 use Rattle.ladder.specs.Sides.{noRow}
 use Rattle.ladder.specs.declared.Row.{Row}
 use Rattle.ladder.specs.Walk.{emptyBook, bookAfter}
 use Rattle.ladder.specs.Words.{bookWidth, sound, SoundBook}
 use Rattle.books.specs.Table.{books, placeIn, block, bookIn}
-use Rattle.books.specs.Reading.{readRow}
+use Rattle.books.specs.Reading.{rowRefused, readRow}
 use Rattle.feed.specs.Messages.{kind, statusOf, logonStatus}
 use Rattle.feed.specs.Feeds.{newGiven}
 use Rattle.feed.specs.Events.{State, Event, Connect, Arrive, Cut, Message, news, timeOf, onMessage}
@@ -107,6 +108,28 @@ Others =
     × (length (behind s e) ≡ length (before s))
     × (drop (bookWidth * countIn books (length (before s))) (behind s e)
     ≡ drop (bookWidth * countIn books (length (before s))) (before s))
+
+-- "Demands 2 and 3 read with the new rule" (document 02, request 1). A message with NoEntries 0 that is taken "empties both sides of that code's book":
+-- where the code has a slot, the lowest, that slot is then the code and zeros; "if the code has no book it still takes no slot". No other word changes
+abbrev pub Emptied : Type 0
+Emptied =
+    (s : State) (e : Event) (m : List ℕ) → Taken s e m → hasEntries m ≡ false
+    → (bookIn (securityCode m) (behind s e) ≡ emptyBook)
+    × ((k : ℕ) → placeIn (securityCode m) (before s) ≡ Held k
+    → behind s e ≡ put bookWidth k (securityCode m ∷ replicate 63 0) (before s))
+    × (((k : ℕ) → placeIn (securityCode m) (before s) ≡ Held k → ⊥) → behind s e ≡ before s)
+
+-- and it must look empty: reading a row of it gives 4, at every rank of both sides
+abbrev pub LooksEmpty : Type 0
+LooksEmpty =
+    (s : State) (e : Event) (m : List ℕ) → Taken s e m → hasEntries m ≡ false
+    → (side rank : ℕ) → listedSide side ≡ true → listedRank rank ≡ true → readRow (securityCode m) side rank (behind s e) ≡ rowRefused 4
+
+-- it "can't be 17", and nothing of it can fail to fit
+abbrev pub EmptyFits : Type 0
+EmptyFits =
+    (s : State) (e : Event) (seq internal : ℕ) (m : List ℕ) → news e ≡ Message seq internal m → hasEntries m ≡ false
+    → (answerOf s e ≡ 17 → ⊥) × (answerOf s e ≡ 16 → ⊥)
 
 -- DEMAND 3, of every run from a new feed of any limit and n zero words.
 -- "the table is what replaying from empty, in order, the book messages taken since the last clearing gives"

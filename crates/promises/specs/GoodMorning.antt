@@ -8,9 +8,9 @@ use lib.ListN.{length}
 use lib.Dec.{T, leb, eqb}
 use Rattle.ground.specs.Choice.{all}
 use Rattle.slots.specs.Layout.{countIn, withCode}
-use Rattle.ladder.specs.Message.{securityCode}
+use Rattle.ladder.specs.Message.{securityCode, hasEntries}
 use Rattle.ladder.specs.Walk.{emptyBook, bookAfter}
-use Rattle.books.specs.Table.{books, hasEntries, misfit}
+use Rattle.books.specs.Table.{books, misfit}
 use Rattle.feed.specs.Messages.{kind, wrongSize, listed, statusOf, logonStatus, lastInternal}
 use Rattle.feed.specs.Feeds.{badgeNo, badgeOf}
 use Rattle.feed.specs.Events.{Event, Connect, News, Linked, More, Heartbeat, Message, news, timeOf}

@@ -9,6 +9,7 @@ pub mod Sizes
 pub mod Entries
 pub mod Widths
 pub mod Tables
+pub mod Emptied
 pub mod Traps
 pub mod Refusals
 pub mod Runs

@@ -6,8 +6,8 @@ use lib.ListN.{replicate}
 use lib.Dec.{leb, eqb}
 use Rattle.ground.specs.Choice.{oneOf}
 use Rattle.slots.specs.Layout.{valueAfter}
-use Rattle.ladder.specs.Message.{securityCode}
-use Rattle.ladder.specs.Walk.{Book, bookAfter}
+use Rattle.ladder.specs.Walk.{Book}
+use Rattle.books.specs.Table.{stepOf}
 use Rattle.feed.specs.Messages.{kind, statusOf, logonStatus}
 use Rattle.feed.specs.Feeds.{newGiven, badgeNo, badgeOf}
 use Rattle.feed.specs.Events.{Tables, State, Event, News, Linked, More, Heartbeat, Message, news, timeOf}
@@ -153,7 +153,7 @@ replay (d ∷ ds) x = replay ds (perform d x)
 
 -- the same for one code, by the messages for that code alone and with no table
 unfoldable pub performOn : ℕ → Deed → Book → Book
-performOn c (Took time m) b = valueAfter c (securityCode m) (bookAfter time m) b
+performOn c (Took time m) b = valueAfter c (stepOf time m) b
 
 unfoldable pub replayOn : ℕ → List Deed → Book → Book
 replayOn c [] b = b

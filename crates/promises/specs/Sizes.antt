@@ -9,7 +9,7 @@ use Rattle.feed.specs.declared.Phase.{Phase}
 use Rattle.feed.specs.declared.Phase.the-variants.{WaitKey, WaitLogon, Refreshing, Live, Lost}
 use Rattle.feed.specs.declared.Link.the-variants.{Fresh}
 use Rattle.promises.specs.Checks.{Check}
-use Rattle.promises.specs.Build.{bytes, header, unit, heartbeat, message, sendKey, entry, bookMessage, feed, arrives, gets}
+use Rattle.promises.specs.Build.{bytes, header, unit, heartbeat, message, sendKey, entry, bookMessage, block, feed, arrives, gets}
 use Rattle.promises.specs.Answering.{oneCall, fed, lost, heard, held, both, fits}
 
 -- bytes that arrive in Live: the answer and the bytes used, where the feed is heard or stays
@@ -85,7 +85,7 @@ sizes =
     ∷ wrongly "53 of 36 bytes with NoEntries 0" Live (message 53 (bytes 4 700 ++ bytes 3 0 ++ bytes 1 0 ++ replicate 24 0))
     ∷ wrongly "53 of 36 bytes with NoEntries 2" Live (message 53 (bytes 4 700 ++ bytes 3 0 ++ bytes 1 2 ++ entry 0 2 0 9720 100 1))
     ∷ wrongly "53 of 37 bytes with NoEntries 1" Live (message 53 (bytes 4 700 ++ bytes 3 0 ++ bytes 1 1 ++ entry 0 2 0 9720 100 1 ++ (0 ∷ [])))
-    ∷ oneCall "53 of 12 bytes with NoEntries 0" (fed Live) held (arrives (unit 5 8 (bookMessage 700 [])) 20 0) (heard Live 8) held
+    ∷ oneCall "53 of 12 bytes with NoEntries 0" (fed Live) held (arrives (unit 5 8 (bookMessage 700 [])) 20 0) (heard Live 8) (block 700 [] [])
     ∷ oneCall "53 of 36 bytes with NoEntries 1" (fed Live) held (arrives (unit 5 8 fits) 20 0) (heard Live 8) both
     ∷ oneCall "1105 of 4 bytes" (fed WaitKey) held (arrives (unit 5 0 sendKey) 20 0) (heard WaitLogon 7) held
     ∷ oneCall "1105 of 532 bytes" (fed WaitKey) held (arrives (unit 5 0 (message 1105 (replicate 528 65))) 20 0) (heard WaitLogon 7) held

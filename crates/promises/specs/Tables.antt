@@ -71,10 +71,6 @@ slots =
     ∷ oneCall "a clear alone takes a slot" (fed Live) (replicate 64 0) (arrives (unit 5 8 (bookMessage 700 (entry 9 0 74 1 1 1 ∷ []))) 20 0) (heard Live 8) (block 700 [] [])
     ∷ oneCall "a new level and its delete take a slot" (fed Live) (replicate 64 0)
     (arrives (unit 5 8 (bookMessage 700 (entry 1 1 0 5 5 5 ∷ entry 1 1 2 9 9 9 ∷ []))) 20 0) (heard Live 8) (block 700 [] [])
-    ∷ oneCall "NoEntries 0 takes none" (fed Live) (replicate 64 0) (arrives (unit 5 8 (bookMessage 700 [])) 20 0) (heard Live 8) (replicate 64 0)
-    ∷ oneCall "NoEntries 0 in a full table" (fed Live) other (arrives (unit 5 8 (bookMessage 700 [])) 20 0) (heard Live 8) other
-    ∷ oneCall "NoEntries 0 for an unsound book" (fed Live) (set held 3 1) (arrives (unit 5 8 (bookMessage 700 [])) 20 0) (heard Live 8) (set held 3 1)
-    ∷ oneCall "NoEntries 0 for a bad code" (fed Live) held (arrives (unit 5 8 (bookMessage 0 [])) 20 15) spoilt held
     ∷ []
 
 -- each way of not being sound, and what is sound though it looks odd

@@ -7,8 +7,10 @@ take-spec =
     tie.close
     (tie.spec
     (λ c κs. search turning)
-    (λ c. search turning)
     (λ c κs. search turning)
+    (λ c κs. search turning)
+    (λ c. search turning)
+    (λ c. search turning)
     (λ c. search turning)
     (λ c. search turning)
     (λ c. search turning)

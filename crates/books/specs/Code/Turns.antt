@@ -2,11 +2,13 @@
 use Prim.Native.Nat.{ℕ}
 use mathlib.Core.Bool.{Bool, cond}
 use mathlib.Core.List.{List}
+use mathlib.Core.Option.{Option, some}
 use lib.Dec.{eqb}
 use Rattle.slots.specs.Layout.{Landed, landed}
 use Rattle.ladder.specs.Code.Arrays.{emptyRows, emptyCounts}
 use Rattle.ladder.specs.Code.Loading.{rowsIn, countsIn}
 use Rattle.ladder.specs.declared.Row.{Row}
+use Rattle.ladder.specs.Walk.{Book, emptyBook}
 use Rattle.books.specs.Table.{bookAnswer, booksAfter}
 
 -- the rows and the counts that a slot's book starts from: a free slot's starts empty
@@ -15,6 +17,10 @@ startRows own w = cond own (rowsIn w) emptyRows
 
 abbrev pub startCounts : Bool → List ℕ → List ℕ
 startCounts own w = cond own (countsIn w) emptyCounts
+
+-- what a message with no entries makes of a book
+abbrev pub empties : Book → Option Book
+empties b = some emptyBook
 
 -- a book message on a table by itself: its answer, and every word afterwards. Only with 0 is anything written
 abbrev pub bookTurn : ℕ → List ℕ → List ℕ → Landed
