@@ -128,7 +128,7 @@ fn emptied_words(words: &mut [u64], code: u64) -> u64
     requires { ⌜ length (now words) ≡ bookWidth ⌝ }
     ensures { λ r. ⌜ landed r (now (words .exit)) ≡ slotTurn books true code empties (now (words .entry)) ⌝ }
 {
-    if ladder::is_sound(words) {
+    if is_ready(words, true) {
         ladder::empty(words, code);
         return 0;
     }
