@@ -6,6 +6,7 @@
  *
  * The table is lent: 64 words a book, at most 4,096 books; words behind the last whole book are never read or written.
  * Start with all words zero, lend the same table at every call, and hand in the feed that the call before handed back.
+ * A book message without entries (NoEntries 0) empties its code's book, which keeps its place; a code without a book gets none.
  * Slices are a pointer and a length in elements; with length 0 the pointer may be null. The table must not overlap the
  * bytes.
  */
@@ -131,8 +132,8 @@ MmdhGiven mmdh_arrive_cut(MmdhFeed feed, uint64_t *table, size_t table_len, uint
 /* A row by code, side (0 bid, 1 offer) and rank (1 to 10). */
 MmdhRow mmdh_read_row(const uint64_t *table, size_t table_len, uint64_t code, uint64_t side, uint64_t rank);
 
-/* All rows of a side at once: row[k] is what mmdh_read_row gives at rank k + 1. A side with no rows is answer 0 and count 0;
-   a book that is not there is 4. */
+/* All rows of a side at once: row[k] is what mmdh_read_row gives at rank k + 1. A side with no rows, as in a book that has been
+   emptied, is answer 0 and count 0; a book that is not there is 4. */
 MmdhSide mmdh_read_side(const uint64_t *table, size_t table_len, uint64_t code, uint64_t side);
 
 /* The badge at a time, of a feed's phase, last heard time and limit: a limit outside 1 to 600,000 is stale. */

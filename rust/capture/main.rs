@@ -1,5 +1,6 @@
 //! Writes a capture: one connection's bytes of a believable morning, the same every time, and beside it their times.
-//! Hub up about six, books fill, badges go green; once the line falls quiet, and in the end for good.
+//! Hub up about six, books fill, badges go green; some books are emptied, once the line falls quiet, and in the end for
+//! good.
 
 #![forbid(unsafe_code)]
 
@@ -142,6 +143,14 @@ fn trade(line: &mut Line, market: &mut Market, updates: usize) {
     }
 }
 
+/// The last orders of a book are matched or withdrawn, and the exchange says that it is empty.
+fn empty(line: &mut Line, market: &mut Market, code: u32) {
+    let k = LISTED.iter().position(|&(listed, _)| listed == code).expect("a listed code");
+    line.wait(15);
+    let emptied = market.emptied(k);
+    line.send_live(&emptied, 0);
+}
+
 /// Heartbeats every two seconds.
 fn pause(line: &mut Line, heartbeats: usize) {
     for _ in 0..heartbeats {
@@ -156,12 +165,19 @@ fn morning() -> Line {
     log_on(&mut line);
     refresh(&mut line, &mut market);
     trade(&mut line, &mut market, 350);
+    // a book that is empty while the line is quiet, and fills again; another that fills again at once
+    empty(&mut line, &mut market, 66);
     pause(&mut line, 2);
-    trade(&mut line, &mut market, 250);
+    trade(&mut line, &mut market, 100);
+    empty(&mut line, &mut market, 27);
+    trade(&mut line, &mut market, 150);
     // a line that falls quiet without a heartbeat, and comes back
     line.wait(6_000);
     line.heartbeat();
-    trade(&mut line, &mut market, 350);
+    trade(&mut line, &mut market, 250);
+    // one that stays empty
+    empty(&mut line, &mut market, 3988);
+    trade(&mut line, &mut market, 100);
     pause(&mut line, 2);
     line
 }

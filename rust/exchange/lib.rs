@@ -88,7 +88,7 @@ pub fn refresh_complete(last: u32) -> Vec<u8> {
     message
 }
 
-/// Type 53.
+/// Type 53; without entries it is what is sent for an emptied book.
 pub fn book_message(code: u32, entries: &[Entry]) -> Vec<u8> {
     let mut message = message(53, 12);
     message[0..2].copy_from_slice(&((12 + 24 * entries.len()) as u16).to_le_bytes());

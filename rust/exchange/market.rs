@@ -59,13 +59,13 @@ impl Market {
         for _ in self.books[k].sides[usize::from(side)].len()..rows.min(ROWS) {
             entries.push(self.append(k, side));
         }
-        book_message(self.books[k].code, &entries)
+        self.message(k, &entries)
     }
 
     /// An update of one book with this many entries.
     pub fn update(&mut self, k: usize, entries: usize) -> Vec<u8> {
         let entries: Vec<Entry> = (0..entries).map(|_| self.entry(k)).collect();
-        book_message(self.books[k].code, &entries)
+        self.message(k, &entries)
     }
 
     /// One clear.
@@ -73,6 +73,20 @@ impl Market {
         let book = &mut self.books[k];
         book.sides = [Vec::new(), Vec::new()];
         book_message(book.code, &[Entry { action: CLEAR, ..Entry::default() }])
+    }
+
+    /// The message that says a book has been emptied: it has no entries.
+    pub fn emptied(&mut self, k: usize) -> Vec<u8> {
+        self.message(k, &[])
+    }
+
+    /// Type 53 with these entries; one without any empties the book.
+    fn message(&mut self, k: usize, entries: &[Entry]) -> Vec<u8> {
+        let book = &mut self.books[k];
+        if entries.is_empty() {
+            book.sides = [Vec::new(), Vec::new()];
+        }
+        book_message(book.code, entries)
     }
 
     /// 30 of 100 are new, 25 delete, 45 change; thin sides fill up first.

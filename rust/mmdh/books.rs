@@ -104,7 +104,7 @@ impl<'a> Books<'a> {
     }
 
     /// The rows of one side at once, best first; refused with 15 where there is no such code, 4 where it has no book,
-    /// 18 where its book is not sound. A book with an empty side is none of these: it has no rows.
+    /// 18 where its book is not sound. An empty side is none of these, nor is a book that has been emptied: it has no rows.
     pub fn side(&self, code: u64, side: Side) -> Result<Rows, Refused> {
         let read = raw::read_side(self.words(), code, side.number());
         let rows = Rows { rows: read.row.map(Row::of), count: read.count as usize };
@@ -121,7 +121,7 @@ impl<'a> Books<'a> {
         self.side(code, Side::Offer)
     }
 
-    /// The codes that have a slot, in slot order.
+    /// The codes that have a slot, in slot order; a book that has been emptied keeps its own.
     pub fn codes(&self) -> impl Iterator<Item = u64> + '_ {
         let slots = self.words().chunks_exact(SLOT).take(SLOTS);
         slots.map(|slot| slot[0]).filter(|&code| code != 0)

@@ -18,6 +18,10 @@ paint [FILE] [OPTIONS]   panels of order books from a capture, stepping through 
   --width N       columns to paint in (the terminal's, or 132)
   --height N      lines to paint in (the terminal's, or 60)
   --help          this text
+
+A panel without rows says why: 'empty book' is a book that has been emptied, 'no book' a code that has none, 'not sound'
+a book that cannot be read, and 'no book yet' a panel that waits for a code. Under a stale badge rows, and the words
+'empty book', are marked with ~.
 ";
 
 /// Panels where none are asked for.

@@ -22,8 +22,12 @@ pub fn height(rows: usize) -> usize {
 
 /// What a panel shows of its book.
 enum Content {
+    /// A book that has rows.
     Rows { bids: Vec<Row>, offers: Vec<Row> },
-    Nothing(&'static str),
+    /// A book that has none. It has been emptied, and keeps its slot and its panel.
+    Empty,
+    /// No book to be read, and why.
+    Missing(&'static str),
 }
 
 pub struct Panel {
@@ -35,10 +39,10 @@ pub struct Panel {
 impl Panel {
     pub fn new(books: &Books<'_>, code: Option<u64>, badge: Badge) -> Panel {
         let content = match code.map(|code| (books.bids(code), books.offers(code))) {
-            None => Content::Nothing("no book yet"),
-            Some((Ok(bids), Ok(offers))) if bids.is_empty() && offers.is_empty() => Content::Nothing("empty book"),
+            None => Content::Missing("no book yet"),
+            Some((Ok(bids), Ok(offers))) if bids.is_empty() && offers.is_empty() => Content::Empty,
             Some((Ok(bids), Ok(offers))) => Content::Rows { bids: bids.to_vec(), offers: offers.to_vec() },
-            Some((Err(refused), _) | (_, Err(refused))) => Content::Nothing(no_rows(refused)),
+            Some((Err(refused), _) | (_, Err(refused))) => Content::Missing(no_book(refused)),
         };
         Panel { code, badge, content }
     }
@@ -47,18 +51,14 @@ impl Panel {
     pub fn lines(&self, columns: Columns, rows: usize) -> Vec<Text> {
         let inside = width(columns) - 2;
         let mut lines = vec![rule('┌', inside, '┐'), framed(self.title(inside))];
-        let middle = rule('├', inside, '┤');
         match &self.content {
             Content::Rows { bids, offers } => {
                 lines.extend((0..rows).rev().map(|at| framed(self.row(columns, offers.get(at), Style::Offer))));
-                lines.push(middle);
+                lines.push(rule('├', inside, '┤'));
                 lines.extend((0..rows).map(|at| framed(self.row(columns, bids.get(at), Style::Bid))));
             }
-            Content::Nothing(words) => {
-                lines.extend((0..rows).map(|_| framed(Text::of(" ".repeat(inside), Style::Plain))));
-                lines.push(middle);
-                lines.extend((0..rows).map(|at| framed(words_at(at, words, inside))));
-            }
+            Content::Empty => lines.extend(words(rows, inside, "empty book", self.is_old())),
+            Content::Missing(why) => lines.extend(words(rows, inside, why, false)),
         }
         lines.push(rule('└', inside, '┘'));
         lines
@@ -74,8 +74,13 @@ impl Panel {
         text.with(shown, Style::Corner(self.badge))
     }
 
+    /// Whether what the book shows is not to be quoted from.
+    fn is_old(&self) -> bool {
+        self.badge == Badge::Stale
+    }
+
     fn row(&self, columns: Columns, row: Option<&Row>, style: Style) -> Text {
-        let old = self.badge == Badge::Stale;
+        let old = self.is_old();
         let mark = if style == Style::Bid { "B" } else { "O" };
         match row {
             None => Text::of(" ".repeat(width(columns) - 2), Style::Plain),
@@ -101,7 +106,7 @@ pub fn label(badge: Badge, room: usize) -> String {
     .to_string()
 }
 
-fn no_rows(refused: Refused) -> &'static str {
+fn no_book(refused: Refused) -> &'static str {
     match refused.answer() {
         Answer::NoRow => "no book",
         Answer::Unsound => "not sound",
@@ -109,10 +114,15 @@ fn no_rows(refused: Refused) -> &'static str {
     }
 }
 
-fn words_at(at: usize, words: &str, inside: usize) -> Text {
-    let shown = if at == 0 { format!(" {}", words) } else { String::new() };
-    let shown: String = shown.chars().take(inside).collect();
-    Text::of(format!("{:<inside$}", shown, inside = inside), Style::Plain)
+/// Words where the best bid would stand, and no rows.
+fn words(rows: usize, inside: usize, words: &str, old: bool) -> Vec<Text> {
+    let (mark, style) = if old { ("~", Style::Old) } else { (" ", Style::Plain) };
+    let said = format!("{}{}", mark, words);
+    let gap = " ".repeat(inside.saturating_sub(said.len()));
+    let mut lines = vec![framed(Text::of(" ".repeat(inside), Style::Plain)); 2 * rows + 1];
+    lines[rows] = rule('├', inside, '┤');
+    lines[rows + 1] = framed(Text::of(said, style).cut(inside).with(gap, Style::Plain));
+    lines
 }
 
 fn rule(left: char, inside: usize, right: char) -> Text {

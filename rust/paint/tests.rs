@@ -6,6 +6,7 @@ use crate::layout::Size;
 use crate::options::Options;
 use crate::svg::picture;
 use crate::text::{Style, Text};
+use exchange::{book_message, header, message, session, unit, Entry, CLEAR};
 use mmdh::Badge;
 
 /// The morning, as far as it had come so many milliseconds after its first unit.
@@ -136,19 +137,53 @@ fn no_book_is_told_from_an_empty_book() {
     let (desk, time) = morning(500);
     assert!(frame(&desk, "--codes 4711", 80, 24, time).join(" ").contains("no book "));
     assert!(frame(&desk, "", 80, 24, time).join(" ").contains("no book yet"));
-    let empty = [
-        (1, 0, vec![4, 0, 0x51, 4]),
-        (2, 0, vec![8, 0, 0x4E, 4, 0, 0, 0, 0]),
-        (3, 1, [&[36, 0, 53, 0, 5, 0, 0, 0, 0, 0, 0, 1][..], &[0; 19], &[74], &[0; 4]].concat()),
-    ];
-    let units = empty.iter().map(|(seq, internal, message)| {
-        let head = [&[99, 0, 0, 0, *seq, 0, 0, 0, *internal][..], &[0; 11]].concat();
-        [head, message.clone()].concat()
-    });
-    let mut desk = Desk::new(3_000, Capture::new(units.collect::<Vec<_>>().concat())).expect("listed");
-    desk.hear(0);
-    let painted = frame(&desk, "--codes 5,6", 80, 24, 0).join(" ");
+    let clear = Entry { action: CLEAR, ..Entry::default() };
+    let painted = frame(&live(&[book_message(5, &[clear])], 1), "--codes 5,6", 80, 24, 1).join(" ");
     assert!(painted.contains("empty book") && painted.contains("no book "), "{}", painted);
+}
+
+/// A desk that is live at 0 and then gets a message each millisecond, as far as it had come by a time.
+fn live(messages: &[Vec<u8>], time: u64) -> Desk {
+    let mut bytes = [unit(1, 0, &message(1105, 4)), unit(2, 0, &session(1102, 0))].concat();
+    for (message, at) in messages.iter().zip(1..) {
+        bytes.extend(header(at + 2, at, message.len(), u64::from(at) * 1_000_000));
+        bytes.extend(message);
+    }
+    let mut desk = Desk::new(3_000, Capture::new(bytes)).expect("listed");
+    desk.hear(time);
+    desk
+}
+
+/// An emptied book (NoEntries 0) keeps its panel, with code and badge, and shows none of its old rows. A code without a book
+/// gets none by it.
+#[test]
+fn an_emptied_book_looks_empty() {
+    let bid = Entry { quantity: 4_000, price: 9_730, orders: 2, level: 1, ..Entry::default() };
+    let filled = book_message(5, &[bid, Entry { side: 1, price: 9_740, ..bid }]);
+    let messages = [filled, book_message(5, &[]), book_message(6, &[]), book_message(5, &[bid])];
+    for (time, bids, offers) in [(1, 1, 1), (2, 0, 0), (3, 0, 0), (4, 1, 0)] {
+        let painted = frame(&live(&messages, time), "--codes 5,6", 80, 24, time);
+        let shown = |mark: &str| painted.iter().map(|line| line.matches(mark).count()).sum::<usize>();
+        assert_eq!((shown("|B "), shown("|O ")), (bids, offers), "{:#?}", painted);
+        assert_eq!(shown("empty book"), usize::from(bids + offers == 0), "{:#?}", painted);
+        assert_eq!((shown("no book"), shown("1 of 1 books")), (1, 1), "{:#?}", painted);
+        assert!(shown("| 5 ") == 1 && shown("green") == 3, "{:#?}", painted);
+    }
+    let stale = frame(&live(&messages, 3), "--codes 5,6", 80, 24, 9_000).join(" ");
+    assert!(stale.contains("|~empty book ") && stale.contains("| no book "), "{}", stale);
+}
+
+/// Three books of the morning are emptied: two fill again, and one stays empty.
+#[test]
+fn the_emptied_books_of_the_morning() {
+    let emptied = |at, code: &str| {
+        let (desk, time) = morning(at);
+        frame(&desk, &format!("--codes {}", code), 80, 24, time).join(" ").contains("empty book")
+    };
+    for (code, filled, empty) in [("66", 11_000, 12_000), ("27", 17_300, 17_340), ("3988", 32_000, 60_000)] {
+        assert!(!emptied(filled, code) && emptied(empty, code), "{}", code);
+    }
+    assert!(!emptied(60_000, "66") && !emptied(60_000, "27"), "filled again");
 }
 
 #[test]

@@ -109,16 +109,12 @@ fn fields(pair: &mut Pair, dice: &mut Dice) {
             pair.arrive_cut(feed(3, 0, 1), &table, 7, 0, &book_message(700, &[entry]), 5_000);
         }
     }
-    for code in [0, 1, 99_999, 100_000, 1 << 17, u32::MAX] {
-        pair.arrive_cut(feed(4, 1, 1), &table, 7, 41, &book_message(code, &[]), 5_000);
-        pair.arrive_cut(
-            feed(4, 1, 1),
-            &table,
-            7,
-            41,
-            &book_message(code, &[Entry { level: 1, ..Entry::default() }]),
-            5_000,
-        );
+    for code in [0, 1, 700, 99_999, 100_000, 1 << 17, u32::MAX] {
+        for entries in [&[][..], &[Entry { level: 1, ..Entry::default() }]] {
+            let message = book_message(code, entries);
+            pair.arrive_cut(feed(4, 1, 1), &table, 7, 41, &message, 5_000);
+            pair.arrive_cut(feed(3, 0, 1), &table, 7, 0, &message, 5_000);
+        }
     }
 }
 

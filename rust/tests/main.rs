@@ -1,9 +1,10 @@
-//! The library against the twin, call by call; the vectors and document 01's examples.
+//! The library against the twin, call by call; the vectors, document 01's examples and emptied books.
 //! The last line is 'N passed, M failed'.
 
 #![forbid(unsafe_code)]
 
 mod badges;
+mod emptied;
 mod examples;
 mod grids;
 mod history;
@@ -55,6 +56,7 @@ fn main() {
     let inputs = program::check_vectors(&mut pair.tally, Path::new(&options.vectors));
     program::check_damaged(&mut pair.tally, &mut dice, &inputs, options.rounds / 2_000);
     examples::check(&mut pair);
+    emptied::check(&mut pair, &mut dice, options.rounds / 100);
     grids::check(&mut pair, &mut dice);
     badges::check(&mut pair, &mut dice, options.rounds / 4);
     singles::check(&mut pair, &mut dice, options.rounds);

@@ -1,5 +1,6 @@
 //! Whole runs: many events on one feed and one table, library and twin each going on with its own.
 
+use crate::emptied::meets;
 use crate::history::{History, LIMIT};
 use crate::pair::{plain_feed, Pair};
 use crate::scene;
@@ -53,13 +54,18 @@ impl Run {
         let (seq, internal) = self.numbers(dice);
         let bytes = if dice.once_in(12) { [20, 0, 0, 0].repeat(5) } else { self.unit(dice, seq, internal, &message) };
         if dice.once_in(10) {
+            let met = meets(&self.table, &message);
             let ours = raw::arrive_cut(self.feed, &mut self.table, seq, internal, &message, time);
             let twins = twin::arrive_cut(self.twin_feed, &mut self.twin_table, seq, internal, &message, time);
+            pair.tally.emptying(self.feed.phase, met, &ours);
             return self.arrived(pair, Call::ArriveCut, ours, twins, &message, time);
         }
+        let message = bytes.get(20..).unwrap_or(&[]);
+        let met = meets(&self.table, message);
         let ours = raw::arrive(self.feed, &mut self.table, &bytes, time);
         let twins = twin::arrive(self.twin_feed, &mut self.twin_table, &bytes, time);
-        self.arrived(pair, Call::Arrive, ours, twins, bytes.get(20..).unwrap_or(&[]), time);
+        pair.tally.emptying(self.feed.phase, met, &ours);
+        self.arrived(pair, Call::Arrive, ours, twins, message, time);
     }
 
     /// Mostly what the phase wants.
@@ -164,7 +170,11 @@ pub fn check_market(pair: &mut Pair, units: u32) {
     for number in 1..=units {
         let book = market.dice().place(128);
         let entries = 2 + market.dice().place(3);
-        let message = if market.dice().once_in(500) { market.clear(book) } else { market.update(book, entries) };
+        let message = match market.dice().below(500) {
+            0 => market.clear(book),
+            1..=4 => market.emptied(book),
+            _ => market.update(book, entries),
+        };
         let bytes = exchange::unit(number, number, &message);
         let given = raw::arrive(feed, &mut table, &bytes, u64::from(number));
         let twin_given = twin::arrive(twins, &mut twin_table, &bytes, u64::from(number));

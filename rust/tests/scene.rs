@@ -14,6 +14,15 @@ const CODES_OUT: [u64; 6] = [0, 100_000, 100_001, 65_536 + 100_000, TOP32, (1 <<
 pub const SESSION: [u16; 7] = [203, 1101, 1102, 1103, 1105, 1201, 1202];
 const MARKET: [u16; 18] = [0, 10, 11, 20, 40, 41, 43, 52, 54, 56, 60, 62, 309, 1100, 1104, 1203, 13_568, 65_535];
 
+/// A code for a book message, mostly a listed one.
+pub fn code(dice: &mut Dice) -> u64 {
+    if dice.once_in(30) {
+        dice.of(&CODES_OUT)
+    } else {
+        dice.of(&CODES)
+    }
+}
+
 /// A feed in any state, likely ones more often.
 pub fn feed(dice: &mut Dice) -> MmdhFeed {
     let yes = |dice: &mut Dice| dice.of(&[0, 0, 0, 0, 1, 1, 1, 1, 2, 256, u64::MAX]);
@@ -166,12 +175,12 @@ fn sides(table: &[u64], code: u64) -> [Vec<u32>; 2] {
     sides
 }
 
-/// Entries for a code, most of which fit; the sides move along with them.
+/// Entries for a code, most of which fit; the sides move along with them. One list in twenty is empty.
 pub fn entries(dice: &mut Dice, table: &[u64], code: u64) -> Vec<Entry> {
     let mut sides = sides(table, code);
     let count = match dice.below(40) {
-        0 => 0,
-        1 => dice.place(40),
+        0 | 1 => 0,
+        2 => dice.place(40),
         _ => 1 + dice.place(4),
     };
     (0..count).map(|_| entry(dice, &mut sides)).collect()
@@ -268,7 +277,7 @@ pub fn message(dice: &mut Dice, phase: u64, table: &[u64]) -> Vec<u8> {
     };
     match kind {
         53 => {
-            let code = if dice.once_in(30) { dice.of(&CODES_OUT) } else { dice.of(&CODES) };
+            let code = code(dice);
             let entries = entries(dice, table, code);
             exchange::book_message(code as u32, &entries)
         }

@@ -1,5 +1,6 @@
 //! Single calls on random feeds, tables, bytes and times.
 
+use crate::emptied::meets;
 use crate::pair::Pair;
 use crate::scene::{self, SLOT};
 use exchange::dice::Dice;
@@ -69,12 +70,9 @@ fn full(pair: &mut Pair, dice: &mut Dice, slots: usize) {
         table[last] = in_last;
         for code in [700, 999 + slots as u64, 1_000] {
             let entries = scene::entries(dice, &table, code);
-            whole_table(pair, &table, &exchange::book_message(code as u32, &entries));
-            whole_table(
-                pair,
-                &table,
-                &exchange::book_message(code as u32, &[Entry { action: CLEAR, ..Entry::default() }]),
-            );
+            for entries in [&entries[..], &[Entry { action: CLEAR, ..Entry::default() }], &[]] {
+                whole_table(pair, &table, &exchange::book_message(code as u32, entries));
+            }
             pair.read_row(&table, code, dice.below(2), 1);
             pair.read_side(&table, code, dice.below(2));
         }
@@ -94,11 +92,13 @@ fn whole_table(pair: &mut Pair, table: &[u64], message: &[u8]) {
 /// One arrival as a stream, then maybe the same message already cut, a row read, a side read.
 fn arrival(pair: &mut Pair, dice: &mut Dice, table: &[u64]) {
     let (feed, bytes, time) = stream(dice, table);
-    pair.arrive(feed, table, &bytes, time);
+    let given = pair.arrive(feed, table, &bytes, time);
+    pair.tally.emptying(feed.phase, meets(table, bytes.get(20..).unwrap_or(&[])), &given);
     if dice.once_in(2) {
         let from = if dice.once_in(10) { dice.place(bytes.len() + 1) } else { 20.min(bytes.len()) };
         let (seq, internal) = scene::numbers(dice, &feed);
-        pair.arrive_cut(feed, table, seq, internal, &bytes[from..], time);
+        let given = pair.arrive_cut(feed, table, seq, internal, &bytes[from..], time);
+        pair.tally.emptying(feed.phase, meets(table, &bytes[from..]), &given);
     }
     if dice.once_in(4) {
         pair.read_row(table, dice.of(&scene::CODES), dice.below(2), 1 + dice.below(10));

@@ -238,6 +238,10 @@ pub fn slot(table: &[u64], k: usize) -> &[u64] {
     &table[SLOT * k..SLOT * (k + 1)]
 }
 
+fn slot_mut(table: &mut [u64], k: usize) -> &mut [u64] {
+    &mut table[SLOT * k..SLOT * (k + 1)]
+}
+
 /// Whether a code may be asked for or sent.
 pub fn code_listed(code: u64) -> bool {
     (1..=99_999).contains(&code)
@@ -251,7 +255,7 @@ pub fn take(table: &mut [u64], message: &[u8]) -> Result<(), Answer> {
         return Err(Answer::NotListed);
     }
     if entries.len() == 0 {
-        return Ok(());
+        return empty(table, code);
     }
     let (k, mut book) = match find(table, code) {
         Some(k) => (k, Book::read(slot(table, k)).ok_or(Answer::Unsound)?),
@@ -262,6 +266,16 @@ pub fn take(table: &mut [u64], message: &[u8]) -> Result<(), Answer> {
             return Err(Answer::Misfit);
         }
     }
-    book.write(code, &mut table[SLOT * k..SLOT * (k + 1)]);
+    book.write(code, slot_mut(table, k));
+    Ok(())
+}
+
+/// NoEntries 0: both sides of the code's book become empty, and its slot stays its own (request 1 of document 02). A code
+/// without a book takes no slot.
+fn empty(table: &mut [u64], code: u64) -> Result<(), Answer> {
+    if let Some(k) = find(table, code) {
+        Book::read(slot(table, k)).ok_or(Answer::Unsound)?;
+        Book::default().write(code, slot_mut(table, k));
+    }
     Ok(())
 }

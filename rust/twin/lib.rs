@@ -1,4 +1,5 @@
-//! Document 01 in plain Rust, written from the document alone: the same calls over the same table of words.
+//! Document 01 in plain Rust, with request 1 of document 02, written from the documents alone: the same calls over the
+//! same table of words.
 //! The library is compared with it, answer by answer and word by word.
 
 #![forbid(unsafe_code)]

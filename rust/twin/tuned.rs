@@ -56,16 +56,16 @@ fn take(table: &mut [u64], message: &[u8]) -> Result<(), Answer> {
     if !code_listed(code) || !entries.chunks_exact(ENTRY).all(listed) {
         return Err(Answer::NotListed);
     }
-    if entries.is_empty() {
-        return Ok(());
-    }
     let words = slot_words(table);
     let slots = &mut table[..words];
+    if entries.is_empty() {
+        return empty_out(slots, code);
+    }
     let k = match find(slots, code) {
         Some(k) => k,
         None => find(slots, 0).ok_or(Answer::Full)?,
     };
-    let slot: &mut [u64; SLOT] = (&mut slots[SLOT * k..SLOT * (k + 1)]).try_into().expect("a slot");
+    let slot = slot_at(slots, k);
     if slot[0] != 0 && !sound(slot) {
         return Err(Answer::Unsound);
     }
@@ -82,6 +82,19 @@ fn take(table: &mut [u64], message: &[u8]) -> Result<(), Answer> {
     Ok(())
 }
 
+/// NoEntries 0: the code's book, if it has one, loses its rows and keeps its slot.
+#[cold]
+fn empty_out(slots: &mut [u64], code: u64) -> Result<(), Answer> {
+    if let Some(k) = find(slots, code) {
+        let slot = slot_at(slots, k);
+        if !sound(slot) {
+            return Err(Answer::Unsound);
+        }
+        *slot = empty(code);
+    }
+    Ok(())
+}
+
 fn listed(entry: &[u8]) -> bool {
     let action = entry[19];
     action == 74 || (action <= 2 && u16_at(entry, 16) <= 1 && entry[18].wrapping_sub(1) < 10)
@@ -89,6 +102,10 @@ fn listed(entry: &[u8]) -> bool {
 
 fn find(slots: &[u64], code: u64) -> Option<usize> {
     slots.chunks_exact(SLOT).position(|slot| slot[0] == code)
+}
+
+fn slot_at(slots: &mut [u64], k: usize) -> &mut [u64; SLOT] {
+    (&mut slots[SLOT * k..SLOT * (k + 1)]).try_into().expect("a slot")
 }
 
 fn empty(code: u64) -> [u64; SLOT] {

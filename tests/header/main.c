@@ -1,5 +1,5 @@
-/* include/mmdh.h as a C program meets it: example 10's three units through the archive, the row and the sides they leave, the
-   badge and every reason. */
+/* include/mmdh.h as a C program meets it: example 10's three units through the archive, the row and the sides they leave, an
+   emptied book, the badge and every reason. */
 #include <stdio.h>
 #include <string.h>
 
@@ -102,6 +102,28 @@ static void sides(void) {
     }
 }
 
+/* A book message without entries, for a book with rows, for an unsound one and for a code without a book in a full table. */
+static void emptied(void) {
+    static uint64_t table[2 * MMDH_BOOK_WORDS + 1], wanted[2 * MMDH_BOOK_WORDS + 1];
+    static const uint64_t book[7] = {700, 1, 0, 0, 2147493378u, 4000, 2}, unsound[4] = {701, 0, 0, 1};
+    static const uint8_t of_700[12] = {12, 0, 53, 0, 0xBC, 2}, of_701[12] = {12, 0, 53, 0, 0xBD, 2}, of_702[12] = {12, 0, 53, 0, 0xBE, 2};
+    MmdhFeed live = {MMDH_LIVE, 3, 0, 5, 1000, 1, 1};
+    memcpy(table, book, sizeof book);
+    memcpy(table + MMDH_BOOK_WORDS, unsound, sizeof unsound);
+    table[128] = 77;
+    memcpy(wanted, table, sizeof table);
+    MmdhGiven given = mmdh_arrive_cut(live, table, 129, 3, 1, of_702, sizeof of_702, 6);
+    expect("no book and no slot: taken", given.answer == MMDH_TAKEN && given.feed.next == 4 && given.feed.internal == 1);
+    given = mmdh_arrive_cut(live, table, 129, 3, 1, of_701, sizeof of_701, 6);
+    expect("an unsound book: lost and not whole", given.answer == MMDH_UNSOUND && given.feed.phase == MMDH_LOST && given.feed.whole == 0);
+    expect("neither writes anything", memcmp(table, wanted, sizeof table) == 0);
+    given = mmdh_arrive_cut(live, table, 129, 3, 1, of_700, sizeof of_700, 6);
+    memset(wanted + 1, 0, (MMDH_BOOK_WORDS - 1) * sizeof wanted[0]);
+    expect("a book with rows: taken", given.answer == MMDH_TAKEN && given.feed.next == 4 && given.feed.internal == 1);
+    expect("its code is all that is left of it", memcmp(table, wanted, sizeof table) == 0);
+    expect("it is there, without rows", mmdh_read_side(table, 129, 700, 0).answer == 0 && mmdh_read_side(table, 129, 700, 0).count == 0);
+}
+
 int main(int argc, char **argv) {
     static uint64_t table[2 * MMDH_BOOK_WORDS + 1];
     static uint8_t bytes[4096];
@@ -149,6 +171,7 @@ int main(int argc, char **argv) {
 
     expect("the bids at once", as_single(table, 129, 700, 0) && mmdh_read_side(table, 129, 700, 0).count == 1);
     sides();
+    emptied();
 
     reasons();
     nothing_lent();

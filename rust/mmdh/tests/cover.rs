@@ -128,6 +128,37 @@ fn no_book_is_told_from_an_empty_one() {
 }
 
 #[test]
+fn an_emptied_book_keeps_its_slot_and_has_no_rows() {
+    let mut books = Books::with_slots(2);
+    let mut feed = live(&mut books, 0);
+    let filled = |code| book_message(code, &[Entry { price: 1, level: 1, ..Entry::default() }]);
+    let emptied = |code| book_message(code, &[]);
+    // the last is for a code without a book, where no slot is free
+    let messages = [filled(5), filled(6), emptied(5), emptied(5), emptied(7)];
+    for (at, message) in messages.iter().enumerate() {
+        let number = at as u32;
+        assert_eq!(feed.arrive_cut(&mut books, number + 3, number + 1, message, 0), Answer::Taken, "message {}", at);
+    }
+    assert_eq!(books.codes().collect::<Vec<_>>(), [5, 6]);
+    assert_eq!((books.bids(5).map(|rows| rows.len()), books.offers(5).map(|rows| rows.len())), (Ok(0), Ok(0)));
+    assert_eq!(books.row(5, Side::Bid, 1).map_err(|refused| refused.answer()), Err(Answer::NoRow));
+    assert_eq!(books.bids(6).map(|rows| rows.len()), Ok(1));
+    assert_eq!(books.bids(7).map_err(|refused| refused.answer()), Err(Answer::NoRow));
+    assert_eq!(feed.arrive_cut(&mut books, 8, 6, &filled(5), 0), Answer::Taken);
+    assert_eq!(numbers(&books.bids(5).expect("a book")), [(1, 0, 0)]);
+}
+
+#[test]
+fn an_unsound_book_is_not_emptied() {
+    let mut words = [0; 64];
+    words[..4].copy_from_slice(&[5, 0, 0, 1]);
+    let mut feed = live(&mut Books::with_slots(0), 0);
+    let emptied = book_message(5, &[]);
+    assert_eq!(feed.arrive_cut(&mut Books::over(&mut words), 3, 1, &emptied, 0), Answer::Unsound);
+    assert_eq!((feed.phase(), feed.whole(), &words[..4]), (Phase::Lost, false, &[5, 0, 0, 1][..]));
+}
+
+#[test]
 fn a_full_side_has_ten_rows() {
     let mut books = Books::with_slots(1);
     let mut feed = live(&mut books, 0);

@@ -167,6 +167,18 @@ fn a_gap_can_be_resumed_from_the_last_internal_number() {
 }
 
 #[test]
+fn an_emptied_book_stays_empty_over_a_resuming_connect() {
+    let mut line = live(5_000);
+    line.hear(&unit(4, 2, &book_message(5, &[])), 5_000).expect("accepted");
+    assert_eq!(line.reconnect(5_010), Ok(Connect::Resuming));
+    line.hear(&session_bytes(0, &[(1, bid(5, 1, 100)), (2, book_message(5, &[]))]), 5_020).expect("accepted");
+    let prices = |line: &Line| line.books().bids(5).expect("a book").iter().map(|row| row.price).collect::<Vec<i64>>();
+    assert_eq!((line.badge(5_020), prices(&line)), (Badge::Green, vec![]));
+    line.hear(&unit(5, 3, &bid(5, 1, 90)), 5_030).expect("accepted");
+    assert_eq!(prices(&line), [90]);
+}
+
+#[test]
 fn a_connect_drops_the_bytes_that_waited() {
     let mut line = live(5_000);
     assert_eq!(line.hear(&unit(4, 2, &bid(5, 2, 90))[..30], 5_000).expect("waits").waiting, 30);
