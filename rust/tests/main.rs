@@ -17,8 +17,10 @@ mod singles;
 mod tally;
 
 use exchange::dice::Dice;
+use pair::Pair;
 use std::path::Path;
 use std::process::exit;
+use std::thread;
 
 const SEED: u64 = 0x0DD1_07C0_FFEE_D001;
 const ROUNDS: u64 = 2_400_000;
@@ -51,19 +53,25 @@ fn main() {
         exit(2)
     });
     println!("seed {} rounds {}", options.seed, options.rounds);
-    let mut pair = pair::Pair::default();
-    let mut dice = Dice::new(options.seed);
+    let (mut pair, mut dice) = (Pair::default(), Dice::new(options.seed));
+    // single calls beside all the rest, with dice of their own
+    let (seed, rounds) = (options.seed.wrapping_add(1), options.rounds);
+    let singles = thread::spawn(move || {
+        let mut pair = Pair::default();
+        singles::check(&mut pair, &mut Dice::new(seed), rounds);
+        pair.tally
+    });
     let inputs = program::check_vectors(&mut pair.tally, Path::new(&options.vectors));
     program::check_damaged(&mut pair.tally, &mut dice, &inputs, options.rounds / 2_000);
     examples::check(&mut pair);
     emptied::check(&mut pair, &mut dice, options.rounds / 100);
     grids::check(&mut pair, &mut dice);
     badges::check(&mut pair, &mut dice, options.rounds / 4);
-    singles::check(&mut pair, &mut dice, options.rounds);
     sides::check(&mut pair.tally, &mut dice, options.rounds / 1_000);
     singles::check_large(&mut pair, &mut dice, options.rounds / 3_000);
     runs::check(&mut pair, &mut dice, options.rounds / 6_000, 500);
     runs::check_market(&mut pair, (options.rounds / 40) as u32);
+    pair.tally.add(singles.join().expect("single calls"));
     if !pair.tally.finish() {
         exit(1);
     }

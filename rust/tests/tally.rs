@@ -111,6 +111,19 @@ impl Tally {
         good
     }
 
+    /// Takes what another counted.
+    pub fn add(&mut self, other: Tally) {
+        self.passed += other.passed;
+        self.failed += other.failed;
+        self.parts.extend(other.parts);
+        for (met, times) in other.answers {
+            *self.answers.entry(met).or_insert(0) += times;
+        }
+        for (met, times) in other.emptying {
+            *self.emptying.entry(met).or_insert(0) += times;
+        }
+    }
+
     /// Prints the counts; true where all passed.
     pub fn finish(mut self) -> bool {
         self.part("every answer and every reason met, call by call");

@@ -1,32 +1,30 @@
 -- A book message with no entries (document 02, request 1): every word after it, and that the book then looks empty. Assumes nothing.
-use Prim.Native.Nat.{ℕ, _<_}
-use mathlib.Core.Path.{_≡_, refl, sym, ap, _∙_, subst}
+use Prim.Native.Nat.{ℕ, _-_}
+use mathlib.Core.Path.{_≡_, refl, ap, _∙_}
 use mathlib.Core.Logic.{inl}
-use mathlib.Core.Bool.{Bool, true, false, cond, _&&_, false≢true}
-use mathlib.Core.List.{List, [], _∷_, map, _++_}
-use mathlib.Core.Option.{Option, some}
+use mathlib.Core.Bool.{true, false, _&&_, false≢true}
+use mathlib.Core.List.{List, [], _∷_}
 use native.Mathlib.Omega.{arith}
 use lib.Dec.{leb, ltb, eqb}
-use lib.ListN.{length, take, replicate}
+use lib.ListN.{replicate}
 use borrow.Author.Tests.{lt-ltb, leb-true}
 use Rattle.ground.specs.Choice.{first}
-use Rattle.ground.proofs.Bools.{both, join, cond-same}
+use Rattle.ground.proofs.Bools.{both, cond-same}
 use Rattle.slots.specs.Slots.{put, flat}
 use Rattle.slots.specs.Layout.{unsoundAt, valueAt, stepped, written}
 use Rattle.slots.specs.declared.Slot.{Slot}
 use Rattle.slots.specs.declared.Slot.the-variants.{Held, Free, Full}
 use Rattle.slots.proofs.Frame.{write-own}
-use Rattle.slots.proofs.Values.{wrote-own}
 use Rattle.ladder.specs.Message.{securityCode, hasEntries, listedCode, listedSide, listedRank}
-use Rattle.ladder.specs.Walk.{Book, emptyBook, walk, bookAfter}
+use Rattle.ladder.specs.Walk.{Book, emptyBook, bookAfter}
 use Rattle.ladder.specs.Words.{bookWidth, bookOf, noRows, sideWords, wordsOf}
 use Rattle.ladder.specs.declared.Row.{Row}
-use Rattle.books.specs.Table.{books, placeIn, block, bookIn, stepOf, booksAfter}
-use Rattle.books.specs.Reading.{noBook, sideOf, readAnswer, rowRefused, readRow}
+use Rattle.books.specs.Table.{books, placeIn, booksAfter}
+use Rattle.books.specs.Reading.{noBook, readAnswer, rowRefused, readRow}
 use Rattle.books.proofs.Lawful.{lawful}
 
 -- an empty book's words: the code, and zeros
-pub empty-words : (c : ℕ) → wordsOf c emptyBook ≡ c ∷ replicate 63 0
+pub empty-words : (c : ℕ) → wordsOf c emptyBook ≡ c ∷ replicate (bookWidth - 1) 0
 unfolding wordsOf sideWords noRows flat
 empty-words c = refl
 
@@ -42,7 +40,7 @@ module _ (time : ℕ) (m t : List ℕ) (none : hasEntries m ≡ false) where
   unfolding booksAfter stepped written
   emptied-in k e = rw (e, bookAfter, none)
 
-  pub emptied-held : (k : ℕ) → placeIn c t ≡ Held k → after ≡ put bookWidth k (c ∷ replicate 63 0) t
+  pub emptied-held : (k : ℕ) → placeIn c t ≡ Held k → after ≡ put bookWidth k (c ∷ replicate (bookWidth - 1) 0) t
   emptied-held k e = emptied-in k e ∙ ap (λ (w : List ℕ). put bookWidth k w t) (empty-words c)
 
   -- and no word where it has none

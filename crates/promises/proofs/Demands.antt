@@ -10,9 +10,11 @@ use borrow.Author.Tests.{not-false, eqb-true, leb-true}
 use Rattle.ground.specs.Choice.{oneOf, first, all}
 use Rattle.ground.proofs.Bools.{both, join, no-second, split, is-T}
 use Rattle.ground.proofs.Choices.{first-may, first-skips}
-use Rattle.slots.specs.Layout.{orAsItWas}
+use Rattle.slots.specs.Layout.{orAsItWas, unsoundAt}
+use Rattle.slots.specs.declared.Slot.the-variants.{Held}
 use Rattle.ladder.specs.Message.{securityCode, listedCode, listedSide, listedRank, listedBook}
-use Rattle.books.specs.Table.{bookIn, unsound, noSlot, misfits, booksAfter}
+use Rattle.ladder.specs.Words.{sound as soundWords}
+use Rattle.books.specs.Table.{placeIn, block, bookIn, unsound, noSlot, misfits, booksAfter}
 use Rattle.books.proofs.Frames.{no-misfit, books-own, books-slots, books-other, books-length, books-tail, book-sound-in}
 use Rattle.books.proofs.Emptying.{emptied-held, emptied-none, looks-empty}
 use Rattle.ladder.proofs.Orders.{price-once}
@@ -35,7 +37,7 @@ use Rattle.promises.specs.Runs.{start, after, run}
 use Rattle.promises.specs.Demands as D
 use Rattle.promises.proofs.Refused as F
 use Rattle.promises.proofs.Refused.{proper, reply-proper}
-use Rattle.promises.proofs.Steps.{Fine, fine}
+use Rattle.promises.proofs.Steps.{isNot, Fine, fine}
 use Rattle.promises.proofs.Badges.{badge-green}
 use Rattle.promises.proofs.Replays.{table-replayed}
 use Rattle.promises.proofs.Soundness.{all-sound, book-replayed}
@@ -132,6 +134,10 @@ module _ (s : State) (e : Event) (m : List ℕ) (t : D.Taken s e m) where
   sound-known : unsound m (s .tables .books) ≡ false
   sound-known = of-book (unsound m (s .tables .books)) (known .sound)
 
+  held-sound : (k : ℕ) → placeIn (securityCode m) (s .tables .books) ≡ Held k → soundWords (block k (s .tables .books)) ≡ true
+  unfolding unsound unsoundAt
+  held-sound k h = not-false (soundWords (block k (s .tables .books))) (rw h at sound-known)
+
   room-known : noSlot m (s .tables .books) ≡ false
   room-known = of-book (noSlot m (s .tables .books)) (known .room)
 
@@ -155,7 +161,7 @@ unfolding orAsItWas
 emptied s e m t none =
     let own : some emptyBook ≡ some (bookIn (securityCode m) (D.behind s e)) = rw (bookAfter, none) at (whole s e m t) in (
       ap (λ (r : Option Book). orAsItWas r emptyBook) (sym own),
-      λ k h. table-after s e m t ∙ emptied-held (timeOf e) m (s .tables .books) none k h,
+      λ k h. (held-sound s e m t k h, table-after s e m t ∙ emptied-held (timeOf e) m (s .tables .books) none k h),
       λ n. table-after s e m t ∙ emptied-none (timeOf e) m (s .tables .books) none n,
     )
 
@@ -166,12 +172,8 @@ looksEmpty s e m t none side rank a b =
     ap (readRow (securityCode m) side rank) (table-after s e m t)
     ∙ looks-empty (timeOf e) m (s .tables .books) none side rank (join _ (listedRank rank) (join (listedCode (securityCode m)) (listedSide side) code a) b)
 
--- neither 17 nor 16
-isNot : ℕ → Answer → Bool
-isNot n a = not (eqb (number a) n)
-
 pub emptyFits : D.EmptyFits
-unfolding outcome handed isNot tests lineTests tableTests all onMessage arrives lacksNeed isMore number
+unfolding outcome handed tests lineTests tableTests all onMessage arrives lacksNeed isMore number
 emptyFits s e seq internal m b none =
     let ts : List (Bool × Answer) = tests (s .feed) (s .tables) (timeOf e) (Message seq internal m) in
     let room : ofBook (kind m) (noSlot m (s .tables .books)) ≡ false = unfold ofBook noSlot in no-second (onMarket book (kind m)) _ (rw none) in

@@ -29,15 +29,13 @@ use Rattle.promises.specs.Runs.{start, after, run, endOf}
 use Rattle.promises.specs.Demands.{handsBytes, Bytes}
 use Rattle.promises.specs.Decisions as C
 use Rattle.promises.proofs.Refused as F
+use Rattle.promises.proofs.Steps.{isNot}
 use Rattle.promises.proofs.Morning.{never18, run-append}
 
 -- a call at time 0 on a feed last heard at 0 is not before it: 10 is not given
-notTen : Answer → Bool
-notTen a = not (eqb (number a) 10)
-
-not-early : (f : Feed) (x : Tables) (n : News) → f .heard ≡ 0 → T (notTen (answerTo f x 0 n))
-unfolding notTen tests lineTests tableTests all onMessage number
-not-early f x n h = first-may notTen (tests f x 0 n) (Take 0) (rw h tt) tt
+not-early : (f : Feed) (x : Tables) (n : News) → f .heard ≡ 0 → T (isNot 10 (answerTo f x 0 n))
+unfolding tests lineTests tableTests all onMessage number
+not-early f x n h = first-may (isNot 10) (tests f x 0 n) (Take 0) (rw h tt) tt
 
 -- after a call the last heard time is that of the call or what it was
 heard-by : (P : ℕ → Type 0) (s : State) (e : Event) → P (s .feed .heard) → P (timeOf e) → P (after s e .feed .heard)
@@ -99,7 +97,7 @@ module _ (x : State) (es : List Event) (st : Stands es x) (part : List ℕ) (hp 
   }
 
   stops : accepted (outcome x e .given .answer) ≡ false → T (oneOf (outcome x e .given .answer) last)
-  unfolding outcome handed notTen Ending timeOf
+  unfolding outcome handed Ending timeOf
   stops f =
       ending x part 0 f
       (λ t. subst (λ (k : ℕ). T (not (eqb k 10))) t (not-early (x .feed) (x .tables) (news e) (st .heard)))

@@ -17,7 +17,6 @@ use Rattle.ladder.specs.Message.{securityCode}
 use Rattle.feed.specs.Messages.{kind, onMarket, book, statusOf, logonStatus}
 use Rattle.feed.specs.Events.{State, Event, Connect, Arrive, Cut, News, Linked, More, Heartbeat, Message, news, cutFrom, timeOf, onMessage}
 use Rattle.feed.specs.Answers.{number, arrives, lacksNeed, isMore, ofBook, lineTests, tableTests, tests, answerTo}
-use Rattle.feed.specs.declared.Answer.{Answer}
 use Rattle.feed.specs.declared.Answer.the-variants.{Take}
 use Rattle.feed.specs.Feeds.{badgeNo, badgeOf}
 use Rattle.feed.specs.Steps.{accepted, handed, outcome}
@@ -31,27 +30,25 @@ use Rattle.promises.specs.Runs.{start, after, run, trace, History, noHis
 use Rattle.promises.specs.Demands as D
 use Rattle.promises.specs.Refusals.{ending}
 use Rattle.promises.specs.Demands.{isConnect, connects, letsIn, isLogon, logsOn}
+use Rattle.promises.proofs.Steps.{isNot}
 use Rattle.promises.proofs.Badges.{badge-green}
 use Rattle.promises.proofs.Soundness.{all-sound}
 
 -- 18 never comes where every slot is sound
-notEighteen : Answer → Bool
-notEighteen a = not (eqb (number a) 18)
-
 pub sound-row : (m t : List ℕ) (k : Kind) → AllSound t → ofBook k (unsound m t) ≡ false
 unfolding ofBook unsound
 sound-row m t k a = no-second (onMarket book k) _ (never-unsound (securityCode m) t a)
 
-no-eighteen : (s : State) (time : ℕ) → AllSound (s .tables .books) → (n : News) → T (notEighteen (answerTo (s .feed) (s .tables) time n))
-unfolding notEighteen tests lineTests tableTests all onMessage arrives lacksNeed isMore number
-no-eighteen s time a (Linked link) = first-may notEighteen (tests (s .feed) (s .tables) time (Linked link)) (Take 0) tt tt
-no-eighteen s time a More = first-may notEighteen (tests (s .feed) (s .tables) time More) (Take 0) tt tt
-no-eighteen s time a Heartbeat = first-may notEighteen (tests (s .feed) (s .tables) time Heartbeat) (Take 0) tt tt
+no-eighteen : (s : State) (time : ℕ) → AllSound (s .tables .books) → (n : News) → T (isNot 18 (answerTo (s .feed) (s .tables) time n))
+unfolding tests lineTests tableTests all onMessage arrives lacksNeed isMore number
+no-eighteen s time a (Linked link) = first-may (isNot 18) (tests (s .feed) (s .tables) time (Linked link)) (Take 0) tt tt
+no-eighteen s time a More = first-may (isNot 18) (tests (s .feed) (s .tables) time More) (Take 0) tt tt
+no-eighteen s time a Heartbeat = first-may (isNot 18) (tests (s .feed) (s .tables) time Heartbeat) (Take 0) tt tt
 no-eighteen s time a (Message seq internal m) =
-    first-may notEighteen (tests (s .feed) (s .tables) time (Message seq internal m)) (Take 0) (rw (sound-row m (s .tables .books) (kind m) a) tt) tt
+    first-may (isNot 18) (tests (s .feed) (s .tables) time (Message seq internal m)) (Take 0) (rw (sound-row m (s .tables .books) (kind m) a) tt) tt
 
 pub never18 : D.Never18
-unfolding outcome handed notEighteen
+unfolding outcome handed
 never18 limit n es e h q =
     let s : State = run (start limit n) es in
     subst (λ (k : ℕ). T (not (eqb k 18))) q (no-eighteen s (timeOf e) (all-sound limit n es h) (news e))

@@ -26,6 +26,10 @@ use Rattle.promises.specs.Refusals.{keeping, losing, spoiling, ending}
 use Rattle.promises.specs.Runs.{after, run, trace, History, noteConnect, noteHeard, noteOver, noteTaken, noteNews, note, recall}
 use Rattle.promises.proofs.Refused.{proper, reply-proper}
 
+-- an answer of another number
+abbrev pub isNot : ℕ → Answer → Bool
+isNot n a = not (eqb (number a) n)
+
 -- what is known of a message that is accepted and not Seen: the tests that it passed by
 pub record Fine (s : State) (time seq internal : ℕ) (m : List ℕ) : Type 0 where
   pub size : wrongSize m ≡ false

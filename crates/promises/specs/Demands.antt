@@ -1,5 +1,5 @@
 -- The customer's three demands as statements. Each is proved in proofs/Demands, under its name with a small letter. Assumes nothing.
-use Prim.Native.Nat.{ℕ, _+_, _*_, _≤_, _<_}
+use Prim.Native.Nat.{ℕ, _+_, _-_, _*_, _≤_, _<_}
 use mathlib.Core.Path.{_≡_}
 use mathlib.Core.Bool.{Bool, true, false, not, _&&_}
 use mathlib.Core.List.{List, [], _∷_, _++_}
@@ -110,13 +110,15 @@ Others =
     ≡ drop (bookWidth * countIn books (length (before s))) (before s))
 
 -- "Demands 2 and 3 read with the new rule" (document 02, request 1). A message with NoEntries 0 that is taken "empties both sides of that code's book":
--- where the code has a slot, the lowest, that slot is then the code and zeros; "if the code has no book it still takes no slot". No other word changes
+-- where the code has a slot, the lowest, its book was sound and that slot is then the code and zeros; "if the code has no book it still takes no slot".
+-- No other word changes
 abbrev pub Emptied : Type 0
 Emptied =
     (s : State) (e : Event) (m : List ℕ) → Taken s e m → hasEntries m ≡ false
     → (bookIn (securityCode m) (behind s e) ≡ emptyBook)
     × ((k : ℕ) → placeIn (securityCode m) (before s) ≡ Held k
-    → behind s e ≡ put bookWidth k (securityCode m ∷ replicate 63 0) (before s))
+    → (sound (block k (before s)) ≡ true)
+    × (behind s e ≡ put bookWidth k (securityCode m ∷ replicate (bookWidth - 1) 0) (before s)))
     × (((k : ℕ) → placeIn (securityCode m) (before s) ≡ Held k → ⊥) → behind s e ≡ before s)
 
 -- and it must look empty: reading a row of it gives 4, at every rank of both sides

@@ -9,7 +9,7 @@ use Rattle.feed.specs.declared.Phase.{Phase}
 use Rattle.feed.specs.declared.Phase.the-variants.{Refreshing, Live, Lost}
 use Rattle.feed.specs.declared.Link.the-variants.{Resuming}
 use Rattle.books.specs.Reading.{rowRefused}
-use Rattle.promises.specs.Checks.{Check, Call, reads, readsSide}
+use Rattle.promises.specs.Checks.{Check, reads, readsSide}
 use Rattle.promises.specs.Build.{unit, sendKey, logon, refresh, complete, entry, bookMessage, row, block, feed, start, arrives, gets, ends, case, logsOn}
 use Rattle.promises.specs.Answering.{oneCall, fed, spoilt, heard, held}
 use Rattle.promises.specs.Desk.{example1, words1, tenRows}

@@ -45,6 +45,11 @@ refilled =
     logsOn 101
     ++ (Arrive (unit 3 0 (refresh 0)) 6000 ∷ Arrive (unit 4 0 (twoBids 700)) 6000 ∷ Arrive (unit 5 0 (complete 9)) 6500 ∷ Arrive (unit 6 10 (better 700)) 6500 ∷ [])
 
+-- two bids for 700, whose book is then emptied (document 02, request 1); the same for 701, which has none; and one event more
+unfoldable pub empties : Event → List Event
+empties e =
+    Arrive (unit 3 7 (twoBids 700)) 6000 ∷ Arrive (unit 4 8 (bookMessage 700 [])) 6000 ∷ Arrive (unit 5 9 (bookMessage 701 [])) 6000 ∷ e ∷ []
+
 -- allowed with a limit of 1,000 and one slot after a connect at 5,000, all of it bytes, and where it ends
 unfoldable pub allows : String → List Event → Stage → Check
 allows name es g = record { name = name; holds = fairly 1000 1 (begins 5000) es && all handsBytes es && on (talk (begins 5000) es .stage) g }
@@ -58,6 +63,8 @@ talks =
     ∷ allows "logon 2" (logsOn 2) Open
     ∷ allows "a day with a refresh" refilled Open
     ∷ allows "a refresh that goes on" (logsOn 101) Fills
+    ∷ allows "a book that is emptied and fills again, and a code that has none" (logsOn 0 ++ empties (Arrive (unit 6 10 (twoBids 700)) 6000)) Open
+    ∷ forbids "a change of a row that was emptied" (logsOn 0 ++ empties (Arrive (unit 6 10 (bookMessage 700 (entry 0 1 1 9730 1 1 ∷ []))) 6000))
     ∷ forbids "logon 1" (logsOn 1)
     ∷ forbids "logon 5" (logsOn 5)
     ∷ forbids "a number left out" (logsOn 0 ++ (Arrive (unit 4 7 (twoBids 700)) 6000 ∷ []))
@@ -146,6 +153,10 @@ ofCode name es c words = record { name = name; holds = sameWords (wordsOf c (rep
 unfoldable pub twoCodes : List Event
 twoCodes = logonThen 0 (Arrive (unit 3 7 (twoBids 701)) 6000 ∷ Arrive (unit 4 8 (better 700)) 6000 ∷ Arrive (unit 5 9 (better 701)) 6000 ∷ [])
 
+-- the first code's book emptied after that, and a code's that has none
+unfoldable pub oneEmptied : List Event
+oneEmptied = twoCodes ++ (Arrive (unit 6 10 (bookMessage 701 [])) 6100 ∷ Arrive (unit 7 11 (bookMessage 702 [])) 6100 ∷ [])
+
 unfoldable pub tales : List Check
 tales =
     recounts "nothing" [] (dark 0) true (freeSlot ++ freeSlot)
@@ -163,6 +174,9 @@ tales =
     ∷ recounts "two codes" twoCodes (greenFrom 6000) true (threeBids 701 ++ oneBid 700)
     ∷ ofCode "the first code by its messages alone" twoCodes 701 (threeBids 701)
     ∷ ofCode "the second" twoCodes 700 (oneBid 700)
+    ∷ recounts "an emptied book, and a code that has none" oneEmptied (greenFrom 6100) true (block 701 [] [] ++ oneBid 700)
+    ∷ ofCode "the emptied book by its messages alone" oneEmptied 701 (block 701 [] [])
+    ∷ ofCode "the other" oneEmptied 700 (oneBid 700)
     ∷ []
 
 -- what ends it, and what begins anew
