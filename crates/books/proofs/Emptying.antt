@@ -15,7 +15,8 @@ use Rattle.slots.specs.Layout.{unsoundAt, valueAt, stepped, written}
 use Rattle.slots.specs.declared.Slot.{Slot}
 use Rattle.slots.specs.declared.Slot.the-variants.{Held, Free, Full}
 use Rattle.slots.proofs.Frame.{write-own}
-use Rattle.ladder.specs.Message.{securityCode, hasEntries, listedCode, listedSide, listedRank}
+use Rattle.wire.specs.Codes.{securityCode, listedCode}
+use Rattle.ladder.specs.Message.{hasEntries, listedSide, listedRank}
 use Rattle.ladder.specs.Walk.{Book, emptyBook, bookAfter}
 use Rattle.ladder.specs.Words.{bookWidth, bookOf, noRows, sideWords, wordsOf}
 use Rattle.ladder.specs.declared.Row.{Row}

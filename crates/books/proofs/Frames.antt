@@ -16,7 +16,8 @@ use Rattle.slots.proofs.Steps as steps
 use Rattle.slots.proofs.Steps.{Modest}
 use Rattle.slots.proofs.Codes as codes
 use Rattle.slots.proofs.Ours.{Ours, stepped-ours}
-use Rattle.ladder.specs.Message.{securityCode, hasEntries}
+use Rattle.wire.specs.Codes.{securityCode}
+use Rattle.ladder.specs.Message.{hasEntries}
 use Rattle.ladder.specs.Walk.{Book, emptyBook, bookAfter}
 use Rattle.ladder.specs.Words.{bookWidth, SoundBook}
 use Rattle.ladder.proofs.Walks.{book-few}

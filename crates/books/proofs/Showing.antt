@@ -21,7 +21,8 @@ use Rattle.slots.specs.declared.Slot.{Slot}
 use Rattle.slots.specs.declared.Slot.the-variants.{Held, Free, Full}
 use Rattle.slots.proofs.Slot as slot′
 use Rattle.slots.proofs.Turning.{part-is}
-use Rattle.ladder.specs.Message.{depth, listedSide, listedRank, listedCode}
+use Rattle.wire.specs.Codes.{listedCode}
+use Rattle.ladder.specs.Message.{depth, listedSide, listedRank}
 use Rattle.ladder.specs.Sides.{noRow}
 use Rattle.ladder.specs.Words.{bookWidth, bidCount, offerCount, bidsAt, offersAt, rowWidth, rowOf, rowsFrom, sound}
 use Rattle.ladder.specs.declared.Row.{Row}

@@ -5,11 +5,10 @@ use mathlib.Core.Path.{_≡_, refl, sym, ap, _∙_}
 use mathlib.Core.Bool.{Bool, true, false, cond}
 use mathlib.Core.List.{List, [], _∷_}
 use mathlib.Core.Option.{Option, none, some}
-use lib.Dec.{leb}
 use lib.ListN.{length, take, drop, getD, length-drop}
 use lib.Seq.{take-all}
 use borrow.Author.Needs.{needs}
-use borrow.Author.Tests.{lt-leb, le-leb, lt-ltb, le-ltb}
+use borrow.Author.Tests.{lt-ltb, le-ltb}
 use borrow.Rule.Slice.PartMut.{putMid}
 use Rattle.ground.specs.Choice.{all}
 use Rattle.wire.specs.Number.{field}
@@ -17,7 +16,8 @@ use Rattle.slots.specs.Layout.{landed, countIn, answer, turn}
 use Rattle.slots.specs.Code.Turns.{ready, startOf, settledIn, slotTurn, within, placeTurn, heldTurn}
 use Rattle.slots.proofs.Turning as slotted
 use Rattle.slots.proofs.Turning.{slotting, turn-is, held-is}
-use Rattle.ladder.specs.Message.{noEntries, hasEntries, entriesFrom, entries, listedCode, listedEntry, listedBook}
+use Rattle.wire.specs.Codes.{listedCode}
+use Rattle.ladder.specs.Message.{noEntries, hasEntries, entriesFrom, entries, listedEntry, listedBook}
 use Rattle.ladder.specs.Walk.{Book, emptyBook, walk, bookAfter}
 use Rattle.ladder.specs.Words.{bookWidth, sound, wordsOf}
 use Rattle.ladder.specs.Code.Arrays as arrays
@@ -33,14 +33,6 @@ use Rattle.books.proofs.Frames.{no-slot}
 
 pub long-part : (m : List ℕ) → 12 ≤ length m → take (length m - 12) (drop 12 m) ≡ drop 12 m
 long-part m h = take-all (length m - 12) (drop 12 m) (rw length-drop (omega arith))
-
-pub code-none : (c : ℕ) → c < 1 → false ≡ listedCode c
-unfolding listedCode
-code-none c h = rw (lt-leb 1 c h)
-
-pub code-rest : (c : ℕ) → 1 ≤ c → leb c 99999 ≡ listedCode c
-unfolding listedCode
-code-rest c h = rw (le-leb 1 c h)
 
 -- how much the entries of a message of the right size take
 pub part-room : (m : List ℕ) (k : ℕ) → length m ≡ 12 + 24 * noEntries m → k ≡ field 11 1 m → 24 * k ≤ length (drop 12 m)
@@ -135,8 +127,6 @@ pub ruleset turning = (
   needs,
   slotting,
   long-part,
-  code-none,
-  code-rest,
   part-room,
   own-ready,
   own-rows,

@@ -9,7 +9,8 @@ use Rattle.ground.specs.Choice.{first}
 use Rattle.wire.specs.Number.{bias}
 use Rattle.slots.specs.declared.Slot.{Slot}
 use Rattle.slots.specs.declared.Slot.the-variants.{Held, Free, Full}
-use Rattle.ladder.specs.Message.{depth, bidSide, listedSide, listedRank, listedCode}
+use Rattle.wire.specs.Codes.{listedCode}
+use Rattle.ladder.specs.Message.{depth, bidSide, listedSide, listedRank}
 use Rattle.ladder.specs.Sides.{rowAt}
 use Rattle.ladder.specs.Walk.{Book}
 use Rattle.ladder.specs.declared.Row.{Row}

@@ -8,7 +8,8 @@ use Rattle.slots.specs.Slots.{maxSlots}
 use Rattle.slots.specs.Layout as table
 use Rattle.slots.specs.Layout.{Layout, Step, stepped}
 use Rattle.slots.specs.declared.Slot.{Slot}
-use Rattle.ladder.specs.Message.{securityCode, hasEntries}
+use Rattle.wire.specs.Codes.{securityCode}
+use Rattle.ladder.specs.Message.{hasEntries}
 use Rattle.ladder.specs.Walk.{Book, emptyBook, bookAfter}
 use Rattle.ladder.specs.Words.{bookWidth, bookOf, wordsOf, sound}
 

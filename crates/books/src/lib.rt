@@ -5,7 +5,8 @@ ghost use Prim.Native.Nat.{_+_, _-_, _*_, _<_, _≤_};
 ghost use lib.ListN.{length, drop};
 ghost use Rattle.slots.specs.Layout.{landed, countIn, clearedIn};
 ghost use Rattle.slots.specs.Code.Turns.{ready, slotTurn, within, placeTurn, heldTurn};
-ghost use Rattle.ladder.specs.Message.{depth, noEntries, entriesAt, entrySize, entriesFrom, listedCode, listedBook, listedSide, listedRank};
+ghost use Rattle.wire.specs.Codes.{listedCode};
+ghost use Rattle.ladder.specs.Message.{depth, noEntries, entriesAt, entrySize, entriesFrom, listedBook, listedSide, listedRank};
 ghost use Rattle.ladder.specs.Walk.{walk};
 ghost use Rattle.ladder.specs.Words.{bookWidth, rowWidth, sideWidth, rowOf};
 ghost use Rattle.wire.specs.Number.{word32};
@@ -156,22 +157,12 @@ fn emptied(table: &mut [u64], code: u64) -> u64
     emptied_slot(table, k, code)
 }
 
-// Whether a code is one of 1 to 99,999.
-fn is_code(code: u64) -> bool
-    ensures { λ r. ⌜ r ≡ listedCode code ⌝ }
-{
-    if code < 1 {
-        return false;
-    }
-    code <= 99999
-}
-
 // Whether the code and all entries of a book message of the right size are listed.
 pub fn is_listed(m: &[u8]) -> bool
     requires { ⌜ length (now m) ≡ entriesAt + entrySize * noEntries (now m) ⌝ }
     ensures { λ r. ⌜ r ≡ listedBook (now (m .entry)) ⌝ }
 {
-    if is_code(wire::u32_in(m, ladder::CODE_AT)) {
+    if wire::is_code(wire::u32_in(m, wire::CODE_AT)) {
         let n = wire::u8_in(m, ladder::NO_ENTRIES_AT) as usize;
         let part = &m[ladder::ENTRIES_AT..];
         return ladder::all_listed(part, n);
@@ -192,7 +183,7 @@ pub fn take(table: &mut [u64], m: &[u8], time: u64) -> u64
     ensures { λ r. ⌜ landed r (now (table .exit)) ≡ bookTurn time (now (m .entry)) (now (table .entry)) ⌝ }
 {
     let n = wire::u8_in(m, ladder::NO_ENTRIES_AT) as usize;
-    let code = wire::u32_in(m, ladder::CODE_AT);
+    let code = wire::u32_in(m, wire::CODE_AT);
     if n == 0 {
         return emptied(table, code);
     }
@@ -216,7 +207,7 @@ fn no_row(answer: u64) -> RowRead
 fn is_side_asked(code: u64, side: u64) -> bool
     ensures { λ r. ⌜ r ≡ (listedCode code && listedSide side) ⌝ }
 {
-    if is_code(code) {
+    if wire::is_code(code) {
         if ladder::OFFER < side {
             return false;
         }

@@ -6,12 +6,10 @@ use lib.ListN.{length, drop}
 use lib.Dec.{ltb, leb, eqb}
 use Rattle.ground.specs.Choice.{oneOf, all}
 use Rattle.wire.specs.Number.{field, biased}
+use Rattle.wire.specs.Codes.{securityCode, listedCode}
 use Rattle.ladder.specs.declared.Entry.{Entry}
 
--- "SecurityCode at 4 (4 bytes), filler 3, NoEntries at 11 (1 byte)"
-abbrev pub securityCode : List ℕ → ℕ
-securityCode m = field 4 4 m
-
+-- "SecurityCode at 4 (4 bytes), filler 3, NoEntries at 11 (1 byte)" (the code: wire/specs/Codes)
 abbrev pub noEntries : List ℕ → ℕ
 noEntries m = field 11 1 m
 
@@ -76,10 +74,6 @@ depth = 10
 
 unfoldable pub listedRank : ℕ → Bool
 listedRank p = leb 1 p && leb p depth
-
--- "code (1 to 99,999)"
-unfoldable pub listedCode : ℕ → Bool
-listedCode c = leb 1 c && leb c 99999
 
 -- side, level and action listed; of a clear, side and level are not looked at
 unfoldable pub listedEntry : Entry → Bool

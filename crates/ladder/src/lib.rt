@@ -33,9 +33,7 @@ pub const OFFERS_AT: usize = BIDS_AT + SIDE_WORDS;
 
 pub const BOOK_WORDS: usize = OFFERS_AT + SIDE_WORDS;
 
-// Where a book message has its code and the number of its entries, where its entries begin, and how long one is.
-pub const CODE_AT: usize = 4;
-
+// Where a book message has the number of its entries, where its entries begin, and how long one is.
 pub const NO_ENTRIES_AT: usize = 11;
 
 pub const ENTRIES_AT: usize = 12;

@@ -12,7 +12,8 @@ use Rattle.ground.proofs.Bools.{both, join, no-second, split, is-T}
 use Rattle.ground.proofs.Choices.{first-may, first-skips}
 use Rattle.slots.specs.Layout.{orAsItWas, unsoundAt}
 use Rattle.slots.specs.declared.Slot.the-variants.{Held}
-use Rattle.ladder.specs.Message.{securityCode, listedCode, listedSide, listedRank, listedBook}
+use Rattle.wire.specs.Codes.{securityCode, listedCode}
+use Rattle.ladder.specs.Message.{listedSide, listedRank, listedBook}
 use Rattle.ladder.specs.Words.{sound as soundWords}
 use Rattle.books.specs.Table.{placeIn, block, bookIn, unsound, noSlot, misfits, booksAfter}
 use Rattle.books.proofs.Frames.{no-misfit, books-own, books-slots, books-other, books-length, books-tail, book-sound-in}

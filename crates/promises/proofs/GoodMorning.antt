@@ -10,7 +10,8 @@ use borrow.Author.Tests.{not-true, eqb-true, leb-true, le-leb, le-ltb}
 use Rattle.ground.specs.Choice.{oneOf, pick, first, all}
 use Rattle.ground.proofs.Bools.{both, of-T, two}
 use Rattle.slots.specs.Layout.{countIn, clearedIn, withCode}
-use Rattle.ladder.specs.Message.{securityCode, hasEntries, listedCode, listedEntry, listedBook, entries}
+use Rattle.wire.specs.Codes.{securityCode, listedCode}
+use Rattle.ladder.specs.Message.{hasEntries, listedEntry, listedBook, entries}
 use Rattle.ladder.specs.Walk.{emptyBook, bookAfter}
 use Rattle.books.specs.Table.{books, placeIn, noneFree, bookIn, misfit, noSlot, misfits, unsound, booksAfter}
 use Rattle.books.proofs.Frames.{Filled, none-filled, room, no-misfit, books-filled}

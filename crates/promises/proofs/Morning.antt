@@ -13,7 +13,7 @@ use Rattle.ground.proofs.Bools.{both, split, no-second, two}
 use Rattle.ground.proofs.Choices.{first-may, each-has}
 use Rattle.books.specs.Table.{unsound}
 use Rattle.books.proofs.Frames.{AllSound, never-unsound}
-use Rattle.ladder.specs.Message.{securityCode}
+use Rattle.wire.specs.Codes.{securityCode}
 use Rattle.feed.specs.Messages.{kind, onMarket, book, statusOf, logonStatus}
 use Rattle.feed.specs.Events.{State, Event, Connect, Arrive, Cut, News, Linked, More, Heartbeat, Message, news, cutFrom, timeOf, onMessage}
 use Rattle.feed.specs.Answers.{number, arrives, lacksNeed, isMore, ofBook, lineTests, tableTests, tests, answerTo}

@@ -14,7 +14,8 @@ use Rattle.wire.specs.declared.Unit.the-variants as unit
 use Rattle.slots.specs.Slots.{put}
 use Rattle.slots.specs.Layout.{countIn, slotsIn}
 use Rattle.slots.specs.declared.Slot.the-variants.{Held, Free}
-use Rattle.ladder.specs.Message.{securityCode, hasEntries, listedSide, listedRank}
+use Rattle.wire.specs.Codes.{securityCode}
+use Rattle.ladder.specs.Message.{hasEntries, listedSide, listedRank}
 use Rattle.ladder.specs.Sides.{noRow}
 use Rattle.ladder.specs.declared.Row.{Row}
 use Rattle.ladder.specs.Walk.{emptyBook, bookAfter}

@@ -8,7 +8,8 @@ use lib.ListN.{length}
 use lib.Dec.{T, leb, eqb}
 use Rattle.ground.specs.Choice.{all}
 use Rattle.slots.specs.Layout.{countIn, withCode}
-use Rattle.ladder.specs.Message.{securityCode, hasEntries}
+use Rattle.wire.specs.Codes.{securityCode}
+use Rattle.ladder.specs.Message.{hasEntries}
 use Rattle.ladder.specs.Walk.{emptyBook, bookAfter}
 use Rattle.books.specs.Table.{books, misfit}
 use Rattle.feed.specs.Messages.{kind, wrongSize, listed, statusOf, logonStatus, lastInternal}

@@ -4,15 +4,17 @@ use native.Mathlib.Nat.{sub-self, lt-of-lt-of-le, pow-le-pow-right, pow-succ', o
 use native.Mathlib.Omega.{arith}
 use mathlib.Core.Path.{_≡_, refl, sym, _∙_}
 use mathlib.Core.List.{List, []}
-use lib.Dec.{lit<}
+use mathlib.Core.Bool.{false}
+use lib.Dec.{leb, lit<}
 use lib.ListN.{length, getD, take, drop, length-drop, drop-of-length-le}
 use lib.Seq.{take-all, take-nil}
 use mir.Syntax.{w64}
 use mir.Val.{Fits}
 use borrow.Author.Needs.{needs}
-use borrow.Author.Tests.{lt-ltb, le-ltb, ne-eqb}
+use borrow.Author.Tests.{lt-leb, le-leb, lt-ltb, le-ltb, ne-eqb}
 use Rattle.wire.specs.Number.{field, biased}
 use Rattle.wire.specs.Units.{unitOf, messageIn}
+use Rattle.wire.specs.Codes.{listedCode}
 use Rattle.wire.specs.declared.Unit.{Unit}
 use Rattle.wire.specs.declared.Unit.the-variants.{More, Heartbeat, Message}
 use Rattle.wire.proofs.Fields.{field-drop, field-clip}
@@ -147,6 +149,15 @@ rest-part s r k n h e =
     let l : length (drop k s) ≤ length s - k = rw (length-drop k s) (omega arith) in
     rw (take-all (length s - k) (drop k s) l) at e
 
+-- a code that is listed
+pub code-none : (c : ℕ) → c < 1 → false ≡ listedCode c
+unfolding listedCode
+code-none c h = rw (lt-leb 1 c h)
+
+pub code-rest : (c : ℕ) → 1 ≤ c → leb c 99999 ≡ listedCode c
+unfolding listedCode
+code-rest c h = rw (le-leb 1 c h)
+
 pub ruleset cases = (
   needs,
   read-none,
@@ -172,4 +183,6 @@ pub ruleset cases = (
   the-rest,
   no-rest,
   rest-part,
+  code-none,
+  code-rest,
 )

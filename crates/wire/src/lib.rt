@@ -5,6 +5,7 @@ ghost use lib.ListN.{length, drop};
 ghost use lib.IntN.{subℕ};
 ghost use Rattle.wire.specs.Number.{field, bias, biased as biasedOf};
 ghost use Rattle.wire.specs.Units.{unitOf, messageIn};
+ghost use Rattle.wire.specs.Codes.{listedCode};
 
 // How many numbers 4 bytes hold, and the bias of a price.
 pub const WORD32: u64 = 4294967296;
@@ -17,6 +18,9 @@ const SIGNED_BIAS: i64 = BIAS as i64;
 pub const HEADER_BYTES: usize = 20;
 
 const SIZED_BYTES: usize = HEADER_BYTES + 2;
+
+// Where a message has the code of its security.
+pub const CODE_AT: usize = 4;
 
 // What stands at the front of a stream: more bytes are wanted; a header alone; a header and a message of `size` bytes behind it.
 pub enum Unit {
@@ -124,6 +128,16 @@ pub fn biased(raw: u64) -> u64
     ensures { λ r. ⌜ (r ≡ biasedOf raw) × (r < 4294967296) ⌝ }
 {
     (raw + BIAS) % WORD32
+}
+
+// Whether a code is one of 1 to 99,999.
+pub fn is_code(code: u64) -> bool
+    ensures { λ r. ⌜ r ≡ listedCode code ⌝ }
+{
+    if code < 1 {
+        return false;
+    }
+    code <= 99999
 }
 
 // The signed price that a word is kept for.
