@@ -6,10 +6,10 @@ use mathlib.Core.List.{List, [], _∷_}
 use lib.Dec.{eqb}
 use Rattle.feed.specs.Feeds.{badgeNo, badgeOf, plainBadge}
 use Rattle.feed.specs.Events.{State}
-use Rattle.feed.specs.Steps.{lent, stateOf, outcome}
+use Rattle.feed.specs.Steps.{stateOf, outcome}
 use Rattle.feed.specs.declared.Feed.{Feed}
 use Rattle.feed.proofs.Laws.{phase-back, plain-badge}
-use Rattle.promises.specs.Runs.{start, after, run, trace}
+use Rattle.promises.specs.Runs.{Sizes, start, after, run, trace}
 use Rattle.promises.proofs.Demands as D
 use Rattle.promises.proofs.NoHole as N
 use Rattle.screen.specs.Plain.{yes, bit, feedOf, plainFeed, plainOutcome}
@@ -36,14 +36,14 @@ comesBack f = λ i. record {
 
 -- the numbers and words of a state
 abbrev plain : State → Held
-plain s = record { feed = plainFeed (s .feed); books = s .tables .books }
+plain s = record { feed = plainFeed (s .feed); tables = s .tables }
 
-same-out : (s : State) (c : Call) → handsBack (plain s .feed) (plain s .books) c ≡ plainOutcome (outcome s (eventOf c))
+same-out : (s : State) (c : Call) → handsBack (plain s .feed) (plain s .tables) c ≡ plainOutcome (outcome s (eventOf c))
 same-out s c = ap (λ (f : Feed). plainOutcome (outcome (stateOf f (s .tables)) (eventOf c))) (comesBack (s .feed))
 
 step-is : (s : State) (c : Call) → plainAfter (plain s) c ≡ plain (after s (eventOf c))
 unfolding plainAfter after
-step-is s c = λ i. record { feed = same-out s c i .given .feed; books = same-out s c i .books }
+step-is s c = λ i. record { feed = same-out s c i .given .feed; tables = same-out s c i .tables }
 
 run-is : (cs : List Call) (s : State) → plainRun (plain s) cs ≡ plain (run s (eventsOf cs))
 unfolding plainRun run eventsOf
@@ -61,12 +61,12 @@ trace-is (c ∷ cs) s =
 pub isRun : C.IsRun
 isRun limit n cs =
     let e = run-is cs (start limit n) in
-    (ap (λ (x : Held). x .feed) e, ap (λ (x : Held). x .books) e, trace-is cs (start limit n))
+    (ap (λ (x : Held). x .feed) e, ap (λ (x : Held). x .tables) e, trace-is cs (start limit n))
 
 pub plainListed : C.PlainListed
-plainListed f t c = D.listed (stateOf (feedOf f) (lent t)) (eventOf c)
+plainListed f x c = D.listed (stateOf (feedOf f) x) (eventOf c)
 
-badge-is : (limit n : ℕ) (cs : List Call) (time : ℕ)
+badge-is : (limit : ℕ) (n : Sizes) (cs : List Call) (time : ℕ)
     → plainBadge (plainRun (plainStart limit n) cs .feed .phase) (plainRun (plainStart limit n) cs .feed .heard) (plainRun (plainStart limit n) cs .feed .limit) time
     ≡ badgeNo (badgeOf (run (start limit n) (eventsOf cs) .feed) time)
 badge-is limit n cs time =
@@ -75,7 +75,7 @@ badge-is limit n cs time =
 pub plainReplayed : C.PlainReplayed
 plainReplayed limit n cs =
     let r = isRun limit n cs in
-    rw (r .2) (r .1 ∙ ap (λ x. x .books) (D.replayed limit n (eventsOf cs)))
+    rw (r .2) (r .1 ∙ D.replayed limit n (eventsOf cs))
 
 pub plainGreen : C.PlainGreen
 plainGreen limit n cs time = rw (isRun limit n cs .2) (ap (λ (k : ℕ). eqb k 1) (badge-is limit n cs time) ∙ D.green limit n (eventsOf cs) time)

@@ -2,6 +2,7 @@
 -- To weaken a contract, or to leave it out, breaks one of these. Assumes nothing.
 use mathlib.Core.Path.{_≡_, sym, ap, _∙_}
 use mathlib.Core.List.{[]}
+use Rattle.feed.specs.Steps.{lent}
 use denote.Ref.{now}
 use Rattle.screen.specs.Plain.{PlainOut}
 use Rattle.screen.proofs.mmdh_new.Reads as new
@@ -12,6 +13,8 @@ use Rattle.screen.proofs.mmdh_badge.Reads as badge
 use Rattle.screen.proofs.mmdh_why.Reads as why
 use Rattle.screen.proofs.mmdh_read_row.Reads as read-row
 use Rattle.screen.proofs.mmdh_read_side.Reads as read-side
+use Rattle.screen.proofs.mmdh_read_strip.Reads as read-strip
+use Rattle.screen.proofs.mmdh_version.Reads as version
 
 -- nothing is asked of who calls
 pub new-asks : (κs : _) (a : _) → new.Asked κs a
@@ -38,20 +41,26 @@ read-row-asks κs a = tt
 pub read-side-asks : (κs : _) (a : _) → read-side.Asked κs a
 read-side-asks κs a = tt
 
+pub read-strip-asks : (κs : _) (a : _) → read-strip.Asked κs a
+read-strip-asks κs a = tt
+
+pub version-asks : (κs : _) (a : _) → version.Asked κs a
+version-asks κs a = tt
+
 -- two outcomes are one: the numbers handed back, and where a table is lent every word of it
 pub new-one : (κs : _) (a : _) (r r′ : _) (x x′ : _) → new.Learnt κs a r x → new.Learnt κs a r′ x′ → r ≡ r′
 new-one κs a r r′ x x′ p q = p ∙ sym q
 
 pub connect-one : (κs : _) (a : _) (r r′ : _) (x x′ : _) → connect.Learnt κs a r x → connect.Learnt κs a r′ x′ → r ≡ r′
-connect-one κs a r r′ x x′ p q = ap (λ (o : PlainOut). o .given) (p [] ∙ sym (q []))
+connect-one κs a r r′ x x′ p q = ap (λ (o : PlainOut). o .given) (p (lent [] []) ∙ sym (q (lent [] [])))
 
 pub arrive-one : (κs : _) (a : _) (r r′ : _) (x x′ : _) → arrive.Learnt κs a r x → arrive.Learnt κs a r′ x′
-    → (r ≡ r′) × (now (x .1 .0) ≡ now (x′ .1 .0))
-arrive-one κs a r r′ x x′ p q = (ap (λ (o : PlainOut). o .given) (p ∙ sym q), ap (λ (o : PlainOut). o .books) (p ∙ sym q))
+    → (r ≡ r′) × (now (x .1 .0) ≡ now (x′ .1 .0)) × (now (x .2 .0) ≡ now (x′ .2 .0))
+arrive-one κs a r r′ x x′ p q = (ap (λ (o : PlainOut). o .given) (p ∙ sym q), ap (λ (o : PlainOut). o .tables .books) (p ∙ sym q), ap (λ (o : PlainOut). o .tables .strips) (p ∙ sym q))
 
 pub arrive-cut-one : (κs : _) (a : _) (r r′ : _) (x x′ : _) → arrive-cut.Learnt κs a r x → arrive-cut.Learnt κs a r′ x′
-    → (r ≡ r′) × (now (x .1 .0) ≡ now (x′ .1 .0))
-arrive-cut-one κs a r r′ x x′ p q = (ap (λ (o : PlainOut). o .given) (p ∙ sym q), ap (λ (o : PlainOut). o .books) (p ∙ sym q))
+    → (r ≡ r′) × (now (x .1 .0) ≡ now (x′ .1 .0)) × (now (x .2 .0) ≡ now (x′ .2 .0))
+arrive-cut-one κs a r r′ x x′ p q = (ap (λ (o : PlainOut). o .given) (p ∙ sym q), ap (λ (o : PlainOut). o .tables .books) (p ∙ sym q), ap (λ (o : PlainOut). o .tables .strips) (p ∙ sym q))
 
 pub badge-one : (κs : _) (a : _) (r r′ : _) (x x′ : _) → badge.Learnt κs a r x → badge.Learnt κs a r′ x′ → r ≡ r′
 badge-one κs a r r′ x x′ p q = p ∙ sym q
@@ -64,3 +73,9 @@ read-row-one κs a r r′ x x′ p q = p ∙ sym q
 
 pub read-side-one : (κs : _) (a : _) (r r′ : _) (x x′ : _) → read-side.Learnt κs a r x → read-side.Learnt κs a r′ x′ → r ≡ r′
 read-side-one κs a r r′ x x′ p q = p ∙ sym q
+
+pub read-strip-one : (κs : _) (a : _) (r r′ : _) (x x′ : _) → read-strip.Learnt κs a r x → read-strip.Learnt κs a r′ x′ → r ≡ r′
+read-strip-one κs a r r′ x x′ p q = p ∙ sym q
+
+pub version-one : (κs : _) (a : _) (r r′ : _) (x x′ : _) → version.Learnt κs a r x → version.Learnt κs a r′ x′ → r ≡ r′
+version-one κs a r r′ x x′ p q = p ∙ sym q

@@ -5,14 +5,17 @@ use mathlib.Core.Bool.{Bool, true, false, cond, not, _&&_, _||_, or-false}
 use mathlib.Core.List.{List, [], _∷_}
 use native.Mathlib.Decide.{decLe}
 use native.Mathlib.Omega.{arith}
-use lib.Dec.{leb, ltb, eqb}
+use lib.Dec.{T, leb, ltb, eqb}
 use lib.ListN.{length}
 use borrow.Author.Needs.{needs}
 use borrow.Author.Tests.{lt-ltb, le-ltb, le-leb, lt-leb, eq-eqb, ne-eqb, eqb-true}
 use Rattle.ground.proofs.Bools.{both}
-use Rattle.ground.specs.Choice.{oneOf, pick, first}
+use Rattle.ground.proofs.Choices.{pick-other}
+use Rattle.ground.specs.Choice.{oneOf, pick, first, all}
 use Rattle.wire.specs.Number.{field}
 use Rattle.ladder.specs.Message.{bookSized, listedBook}
+use Rattle.strips.specs.Forms.{isStrip, stripSized, listedStrip}
+use Rattle.strips.specs.Code.Shapes.{Sized}
 use Rattle.feed.specs.Messages.{datumOf, kindOf, market, onMarket, sized, wrongSize, statusOf, listedStatus, listed}
 use Rattle.feed.specs.Feeds.{phaseNo, is, deaf, inPhase, internalIs, wholeIs, listedLimit, newFeed, newGiven, colour, badgeNo, badge, phaseOf, plainBadge}
 use Rattle.feed.specs.Events.{Tables, Linked}
@@ -27,7 +30,7 @@ use Rattle.feed.specs.declared.Kind.the-variants.{Session, Market}
 use Rattle.feed.specs.declared.Session as session
 use Rattle.feed.specs.declared.Session.the-variants.{SendKey, Logon, Logout, Refresh, Complete, Request}
 use Rattle.feed.specs.declared.Datum.{Datum}
-use Rattle.feed.specs.declared.Datum.the-variants.{Book, Other}
+use Rattle.feed.specs.declared.Datum.the-variants.{Book, Strip, Other}
 use Rattle.feed.specs.declared.Status.{Status}
 use Rattle.feed.specs.declared.Status.the-variants.{Opens, Refills, Stays, Closes, Unlisted}
 use Rattle.feed.specs.declared.Badge.{Badge}
@@ -103,9 +106,40 @@ pub is-book : (t : ℕ) → t ≡ 53 → Book ≡ datumOf t
 unfolding datumOf pick
 is-book t e = rw e
 
-pub is-other : (t : ℕ) → (t ≡ 53 → ⊥) → Other ≡ datumOf t
+pub is-strip : (t : ℕ) (b : Bool) → (t ≡ 53 → ⊥) → b ≡ isStrip t → b ≡ true → Strip ≡ datumOf t
 unfolding datumOf pick
-is-other t e = rw (ne-eqb t 53 e)
+is-strip t b e f g = rw (ne-eqb t 53 e, ← f, g)
+
+pub is-other : (t : ℕ) (b : Bool) → (t ≡ 53 → ⊥) → b ≡ isStrip t → b ≡ false → Other ≡ datumOf t
+unfolding datumOf pick
+is-other t b e f g = rw (ne-eqb t 53 e, ← f, g)
+
+-- what is a strip's message has a strip's type
+stripKind : Kind → Bool
+stripKind (Session s) = false
+stripKind (Market Book) = false
+stripKind (Market Strip) = true
+stripKind (Market Other) = false
+
+abbrev sessions : List (ℕ × Kind)
+sessions =
+    (203, Session Complete)
+    ∷ (1101, Session Request)
+    ∷ (1102, Session Logon)
+    ∷ (1103, Session Logout)
+    ∷ (1105, Session SendKey)
+    ∷ (1201, Session Request)
+    ∷ (1202, Session Refresh)
+    ∷ []
+
+strip-type : (t : ℕ) → T (stripKind (kindOf t)) → isStrip t ≡ true
+unfolding kindOf datumOf pick all stripKind
+strip-type t h = go (eqb t 53) (isStrip t) (pick-other stripKind t sessions (Market (datumOf t)) h tt)
+  where
+    go : (a b : Bool) → T (stripKind (Market (cond a Book (cond b Strip Other)))) → b ≡ true
+    go true b h = absurd h
+    go false true h = refl
+    go false false h = absurd h
 
 pub is-market : (t : ℕ) (d : Datum) → (t ≡ 203 → ⊥) → (t ≡ 1101 → ⊥) → (t ≡ 1102 → ⊥) → (t ≡ 1103 → ⊥) → (t ≡ 1105 → ⊥) → (t ≡ 1201 → ⊥) → (t ≡ 1202 → ⊥) → d ≡ datumOf t → Market d ≡ kindOf t
 unfolding kindOf pick
@@ -159,6 +193,13 @@ book-right m k d a e g h =
     eqb-true (length m) (12 + 24 * field 11 1 m)
     (both (leb 12 (length m)) (eqb (length m) (12 + 24 * field 11 1 m))
     (last-holds (ltb (length m) 4 || not (eqb (field 0 2 m) (length m))) (bookSized m) (rw (← a, g, h) at e)) .1)
+
+pub strip-right : (m : List ℕ) (k : Kind) (d : Datum) → k ≡ kindOf (field 2 2 m) → wrongSize m ≡ false → k ≡ Market d → d ≡ Strip → Sized m
+unfolding wrongSize sized stripKind
+strip-right m k d a e g h = record {
+  listed = strip-type (field 2 2 m) (rw (← a, g, h) tt);
+  right = last-holds (ltb (length m) 4 || not (eqb (field 0 2 m) (length m))) (stripSized m) (rw (← a, g, h) at e);
+}
 
 -- what is allowed and seen
 pub in-refreshing : (p : Phase) (i : ℕ) → p ≡ Refreshing → eqb i 0 ≡ allowed (Market Other) p i
@@ -232,6 +273,10 @@ module _ (k : Kind) (m : List ℕ) where
   unfolding listed
   listed-market d b e f g = rw (e, f) g
 
+  pub listed-strip : (d : Datum) (b : Bool) → k ≡ Market d → d ≡ Strip → b ≡ listedStrip m → b ≡ listed k m
+  unfolding listed
+  listed-strip d b e f g = rw (e, f) g
+
   pub listed-other : (d : Datum) → k ≡ Market d → d ≡ Other → true ≡ listed k m
   unfolding listed
   listed-other d e f = rw (e, f)
@@ -240,6 +285,10 @@ module _ (k : Kind) (m : List ℕ) (d : Datum) (e : k ≡ Market d) where
   pub sized-book : (b : Bool) → d ≡ Book → b ≡ bookSized m → b ≡ sized k m
   unfolding sized
   sized-book b f g = rw (e, f) g
+
+  pub sized-strip : (b : Bool) → d ≡ Strip → b ≡ stripSized m → b ≡ sized k m
+  unfolding sized
+  sized-strip b f g = rw (e, f) g
 
   pub sized-other : d ≡ Other → true ≡ sized k m
   unfolding sized
@@ -412,6 +461,7 @@ pub ruleset parts = (
   badge-off,
   badge-plain,
   is-book,
+  is-strip,
   is-other,
   is-market,
   kind-read,
@@ -424,6 +474,7 @@ pub ruleset parts = (
   wrong-sized,
   size-right,
   book-right,
+  strip-right,
   in-refreshing,
   session-allowed,
   market-allowed,
@@ -433,8 +484,10 @@ pub ruleset parts = (
   refresh-listed,
   listed-session,
   sized-book,
+  sized-strip,
   sized-other,
   listed-market,
+  listed-strip,
   listed-other,
   not-live,
   seen-session,

@@ -20,13 +20,15 @@ use Rattle.ground.proofs.Bools.{both, cond-same}
 use Rattle.ground.proofs.Choices.{noneUpto, first-skips}
 use Rattle.wire.proofs.Unit as the-unit
 use Rattle.wire.proofs.Fronts.{unit-fits, message-length}
-use Rattle.slots.specs.Layout.{Landed, landed, clearedIn}
-use Rattle.books.specs.Table.{books, unsound, noSlot, misfits, bookAnswer, booksAfter}
+use Rattle.slots.specs.Layout.{Landed, landed, misfit, clearedIn, answer, turn}
+use Rattle.books.specs.Table.{books, bookAnswer, booksAfter}
+use Rattle.strips.specs.Table as strip
+use Rattle.strips.specs.Table.{strips, stepOf, stripsAfter}
 use Rattle.books.specs.Code.Turns.{bookTurn}
-use Rattle.feed.specs.Messages.{kindOf, onMarket, market, book, wrongSize, statusOf, listed}
+use Rattle.feed.specs.Messages.{kindOf, onMarket, market, tabled, wrongSize, statusOf, listed}
 use Rattle.feed.specs.Feeds.{deaf, inPhase, nextIs, internalIs, heardAt, wholeIs, freshIs}
-use Rattle.feed.specs.Events.{Tables, Connect, Arrive, Cut, timeOf, News, Linked, Message, cutFrom, news, onMessage, newsSize, offered}
-use Rattle.feed.specs.Answers.{number, arrives, lacksNeed, isMore, isNext, allowed, seen, ofBook, passed, lineTests, tableTests, tests}
+use Rattle.feed.specs.Events.{Tables, clearedTables, Connect, Arrive, Cut, timeOf, News, Linked, Message, cutFrom, news, onMessage, newsSize, offered}
+use Rattle.feed.specs.Answers.{number, arrives, lacksNeed, isMore, isNext, allowed, seen, unsoundFor, noSlotFor, misfitsFor, passed, lineTests, tableTests, tests}
 use Rattle.feed.specs.Code.Judging.{verdict, refusal}
 use Rattle.feed.specs.Steps.{enterLive, isFresh, loggedOn, clearsOn, clears, tablesAfter, does, advanced, counted, taken, act, accepted, usedOf, Outcome, lent, stateOf, outOf, handed, outcome}
 use Rattle.feed.specs.Code.Judging.{clearedIf, answered, usedIs, onTables}
@@ -36,7 +38,7 @@ use Rattle.feed.specs.declared.Kind.the-variants.{Session, Market}
 use Rattle.feed.specs.declared.Session as session
 use Rattle.feed.specs.declared.Session.the-variants.{SendKey, Logon, Logout, Refresh, Complete, Request}
 use Rattle.feed.specs.declared.Datum.{Datum}
-use Rattle.feed.specs.declared.Datum.the-variants.{Book, Other}
+use Rattle.feed.specs.declared.Datum.the-variants.{Book, Strip, Other}
 use Rattle.feed.specs.declared.Status.{Status}
 use Rattle.feed.specs.declared.Link.{Link}
 use Rattle.feed.specs.declared.Feed.{Feed}
@@ -73,68 +75,100 @@ module _ (f : Feed) (m : List ℕ) (n q i : ℕ) (x : Tables) (s : session.Sessi
   unfolding taken does counted market onMarket clears
   done-request e = rw (← k, e, a)
 
--- 18, 17, 16 or Taken, as the table of books answers
-by-books : (a b c : Bool) → cond a (Spoil 18) (cond b (Spoil 17) (cond c (Spoil 16) (Take 0)))
-    ≡ cond (eqb (cond a 18 (cond b 17 (cond c 16 0))) 0) (Take 0) (Spoil (cond a 18 (cond b 17 (cond c 16 0))))
-by-books true b c = refl
-by-books false true c = refl
-by-books false false true = refl
-by-books false false false = refl
+-- 18, 17, 16 or Taken, as a table answers
+abbrev byTests : Bool → Bool → Bool → ℕ
+byTests a b c = cond a 18 (cond b 17 (cond c 16 0))
+
+by-table : (a b c : Bool) → cond a (Spoil 18) (cond b (Spoil 17) (cond c (Spoil 16) (Take 0))) ≡ cond (eqb (byTests a b c) 0) (Take 0) (Spoil (byTests a b c))
+by-table true b c = refl
+by-table false true c = refl
+by-table false false true = refl
+by-table false false false = refl
 
 -- 0 is the only accepted one of these
-books-accept : (a b c : Bool) → accepted (cond a 18 (cond b 17 (cond c 16 0))) ≡ eqb (cond a 18 (cond b 17 (cond c 16 0))) 0
-books-accept true b c = refl
-books-accept false true c = refl
-books-accept false false true = refl
-books-accept false false false = refl
+zero-accepted : (a b c : Bool) → accepted (byTests a b c) ≡ eqb (byTests a b c) 0
+zero-accepted true b c = refl
+zero-accepted false true c = refl
+zero-accepted false false true = refl
+zero-accepted false false false = refl
+
+-- one table written or not
+books-if : (z : Bool) (u v t : List ℕ) → lent (cond z u v) t ≡ cond z (lent u t) (lent v t)
+books-if true u v t = refl
+books-if false u v t = refl
+
+strips-if : (z : Bool) (b u v : List ℕ) → lent b (cond z u v) ≡ cond z (lent b u) (lent b v)
+strips-if true b u v = refl
+strips-if false b u v = refl
+
+pub cleared-both : (b t u v : List ℕ) → u ≡ clearedIn books b → v ≡ clearedIn strips t → lent u v ≡ clearedTables (lent b t)
+cleared-both b t u v e f = rw (e, f)
 
 -- a message that is left to the tables
-module _ (f : Feed) (t m : List ℕ) (n q i : ℕ) (k : Kind) (a : k ≡ kindOf (field 2 2 m)) where
+module _ (f : Feed) (b t m : List ℕ) (n q i : ℕ) (k : Kind) (a : k ≡ kindOf (field 2 2 m)) where
+  abbrev x : Tables
+  x = lent b t
+
   module _ (s : session.Session) (c : Bool) (y : Feed) (g : Given) (e : k ≡ Session s) (d : c ≡ clears s m (f .fresh)) where
-    no-tests : first (tableTests (lent t) n (Message q i m)) (Take 0) ≡ Take 0
-    unfolding first tableTests onMessage ofBook passed onMarket
+    no-tests : first (tableTests x n (Message q i m)) (Take 0) ≡ Take 0
+    unfolding first tableTests onMessage unsoundFor noSlotFor misfitsFor passed onMarket
     no-tests = rw (← a, e)
 
-    pub session-cleared : (u : List ℕ) → c ≡ true → u ≡ clearedIn books t
+    pub session-cleared : (u v : List ℕ) → c ≡ true → lent u v ≡ clearedTables (lent b t)
         → ((r j : ℕ) (x : Tables) → stateOf y (clearedIf (clears s m (f .fresh)) x) ≡ taken n (Message r j m) (stateOf f x)) → g ≡ answered 0 y
-        → outOf g (lent u) ≡ onTables (stateOf f (lent t)) (Cut q i m n)
+        → outOf g (lent u v) ≡ onTables (stateOf f (lent b t)) (Cut q i m n)
     unfolding onTables handed timeOf news number act usedOf offered
-    session-cleared u h v w l = rw (no-tests, ← w q i (lent t), ← d, h, l, v)
+    session-cleared u v h o w l = rw (no-tests, ← w q i x, ← d, h, l, o)
 
     pub session-kept : c ≡ false → ((r j : ℕ) (x : Tables) → stateOf y (clearedIf (clears s m (f .fresh)) x) ≡ taken n (Message r j m) (stateOf f x)) → g ≡ answered 0 y
-        → outOf g (lent t) ≡ onTables (stateOf f (lent t)) (Cut q i m n)
+        → outOf g (lent b t) ≡ onTables (stateOf f (lent b t)) (Cut q i m n)
     unfolding onTables handed timeOf news number act usedOf offered
-    session-kept h w l = rw (no-tests, ← w q i (lent t), ← d, h, l)
+    session-kept h w l = rw (no-tests, ← w q i x, ← d, h, l)
 
   module _ (d : Datum) (g : Given) (e : k ≡ Market d) where
-    book-tests : d ≡ Book → first (tableTests (lent t) n (Message q i m)) (Take 0) ≡ cond (eqb (bookAnswer n m t) 0) (Take 0) (Spoil (bookAnswer n m t))
-    unfolding first tableTests onMessage ofBook passed onMarket book bookAnswer
-    book-tests h = rw (← a, e, h) (by-books (unsound m t) (noSlot m t) (misfits n m t))
+    -- one that goes to a table, by what that table answers
+    module _ (o : tabled d ≡ true) where
+      abbrev theirs : ℕ
+      theirs = byTests (unsoundFor (Market d) m x) (noSlotFor (Market d) m x) (misfitsFor (Market d) n m x)
 
-    book-accept : accepted (bookAnswer n m t) ≡ eqb (bookAnswer n m t) 0
-    unfolding bookAnswer first
-    book-accept = books-accept (unsound m t) (noSlot m t) (misfits n m t)
+      tests-are : first (tableTests x n (Message q i m)) (Take 0) ≡ cond (eqb theirs 0) (Take 0) (Spoil theirs)
+      unfolding first tableTests onMessage passed onMarket
+      tests-are = rw (← a, e, o) (by-table (unsoundFor (Market d) m x) (noSlotFor (Market d) m x) (misfitsFor (Market d) n m x))
 
-    -- by whether the table answers 0
-    book-by : d ≡ Book → (b : Bool) → eqb (bookAnswer n m t) 0 ≡ b
-        → outOf (answered (bookAnswer n m t) (cond b (advanced n (counted (Market Other) i f)) (inPhase Lost (wholeIs false f)))) (lent (cond b (booksAfter n m t) t))
-        ≡ handed (cond b (Take 0) (Spoil (bookAnswer n m t))) (stateOf f (lent t)) (Cut q i m n)
-    unfolding handed timeOf news number act usedOf offered taken does tablesAfter counted market onMarket
-    book-by h true z = rw (← a, e, h, eqb-true (bookAnswer n m t) 0 z)
-    book-by h false z = rw (cond-same {A = ℕ} (leb (bookAnswer n m t) 2) 0)
+      -- by whether it answers 0
+      met-by : (z : Bool) → eqb theirs 0 ≡ z
+          → outOf (answered theirs (cond z (advanced n (counted (Market Other) i f)) (inPhase Lost (wholeIs false f)))) (cond z (tablesAfter d n m x) x)
+          ≡ handed (cond z (Take 0) (Spoil theirs)) (stateOf f x) (Cut q i m n)
+      unfolding handed timeOf news number act usedOf offered taken does counted market onMarket
+      met-by true z = rw (← a, e, eqb-true theirs 0 z)
+      met-by false z = rw (cond-same {A = ℕ} (leb theirs 2) 0)
 
-    pub book-met : (r : ℕ) (u : List ℕ) → d ≡ Book → landed r u ≡ bookTurn n m t
+      met : (r : ℕ) (u : Tables) → r ≡ theirs → u ≡ cond (eqb theirs 0) (tablesAfter d n m x) x
+          → g ≡ answered r (cond (accepted r) (advanced n (counted (Market Other) i f)) (inPhase Lost (wholeIs false f)))
+          → outOf g u ≡ onTables (stateOf f x) (Cut q i m n)
+      unfolding onTables timeOf news
+      met r u p v l =
+          rw (l, p, v, zero-accepted (unsoundFor (Market d) m x) (noSlotFor (Market d) m x) (misfitsFor (Market d) n m x), tests-are) (met-by (eqb theirs 0) refl)
+
+    pub book-met : (r : ℕ) (u : List ℕ) → d ≡ Book → landed r u ≡ bookTurn n m b
         → g ≡ answered r (cond (accepted r) (advanced n (counted (Market Other) i f)) (inPhase Lost (wholeIs false f)))
-        → outOf g (lent u) ≡ onTables (stateOf f (lent t)) (Cut q i m n)
-    unfolding onTables timeOf news
+        → outOf g (lent u t) ≡ onTables (stateOf f (lent b t)) (Cut q i m n)
+    unfolding tabled unsoundFor noSlotFor misfitsFor tablesAfter bookAnswer first
     book-met r u h w l =
-        let p : r ≡ bookAnswer n m t = ap (λ (x : Landed). x .answer) w in
-        let v : u ≡ cond (eqb (bookAnswer n m t) 0) (booksAfter n m t) t = ap (λ (x : Landed). x .words) w in
-        rw (l, p, v, book-accept, book-tests h) (book-by h (eqb (bookAnswer n m t) 0) refl)
+        met (rw h) r (lent u t) (ap (λ (y : Landed). y .answer) w ∙ rw h)
+        (ap (λ (y : Landed). lent (y .words) t) w ∙ rw h (books-if (eqb (bookAnswer n m b) 0) (booksAfter n m b) b t)) l
+
+    pub strip-met : (r : ℕ) (u : List ℕ) → d ≡ Strip → landed r u ≡ turn strips (stepOf m) t
+        → g ≡ answered r (cond (accepted r) (advanced n (counted (Market Other) i f)) (inPhase Lost (wholeIs false f)))
+        → outOf g (lent b u) ≡ onTables (stateOf f (lent b t)) (Cut q i m n)
+    unfolding tabled unsoundFor noSlotFor misfitsFor tablesAfter answer misfit strip.unsound strip.noSlot stripsAfter first
+    strip-met r u h w l =
+        met (rw h) r (lent b u) (ap (λ (y : Landed). y .answer) w ∙ rw h)
+        (ap (λ (y : Landed). lent b (y .words)) w ∙ rw h (strips-if (eqb (answer strips (stepOf m) t) 0) b (stripsAfter m t) t)) l
 
     pub other-met : (y : Feed) → d ≡ Other → y ≡ advanced n (counted (Market Other) i f) → g ≡ answered 2 y
-        → outOf g (lent t) ≡ onTables (stateOf f (lent t)) (Cut q i m n)
-    unfolding onTables handed first tableTests timeOf news onMessage ofBook passed onMarket book number act usedOf offered taken does tablesAfter counted market
+        → outOf g (lent b t) ≡ onTables (stateOf f (lent b t)) (Cut q i m n)
+    unfolding onTables handed first tableTests timeOf news onMessage unsoundFor noSlotFor misfitsFor passed onMarket tabled number act usedOf offered taken does tablesAfter counted market
     other-met y h p l = rw (← a, e, h, ← a, e, h, l, p)
 
 -- 10 and 11: what two tests refuse is not 0, and where they refuse nothing both fail
@@ -335,9 +369,11 @@ pub ruleset rows = (
   done-refresh,
   done-complete,
   done-request,
+  cleared-both,
   session-cleared,
   session-kept,
   book-met,
+  strip-met,
   other-met,
   row-refused,
   row-size,

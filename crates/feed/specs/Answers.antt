@@ -5,7 +5,8 @@ use mathlib.Core.List.{List, [], _∷_, _++_}
 use lib.Dec.{ltb, leb, eqb}
 use Rattle.ground.specs.Choice.{first}
 use Rattle.books.specs.Table.{unsound, noSlot, misfits}
-use Rattle.feed.specs.Messages.{kind, onMarket, market, book, wrongSize, listed}
+use Rattle.strips.specs.Table as strip
+use Rattle.feed.specs.Messages.{kind, onMarket, market, tabled, wrongSize, listed}
 use Rattle.feed.specs.Feeds.{is, deaf}
 use Rattle.feed.specs.Events.{Tables, State, Event, timeOf, News, Linked, More, Heartbeat, Message, news, onMessage}
 use Rattle.feed.specs.declared.Phase.{Phase}
@@ -13,6 +14,7 @@ use Rattle.feed.specs.declared.Phase.the-variants.{WaitKey, WaitLogon, R
 use Rattle.feed.specs.declared.Kind.{Kind}
 use Rattle.feed.specs.declared.Kind.the-variants.{Session, Market}
 use Rattle.feed.specs.declared.Session.the-variants.{SendKey, Logon, Logout, Refresh, Complete, Request}
+use Rattle.feed.specs.declared.Datum.the-variants.{Book, Strip, Other}
 use Rattle.feed.specs.declared.Feed.{Feed}
 use Rattle.feed.specs.declared.Link.the-variants.{Fresh, Resuming}
 use Rattle.feed.specs.declared.Answer.{Answer}
@@ -69,13 +71,28 @@ allowed (Session Request) p internal = false
 unfoldable pub seen : Feed → Kind → ℕ → Bool
 seen f k internal = is (f .phase) Live && market k && leb internal (f .internal)
 
--- a test of a book message
-unfoldable pub ofBook : Kind → Bool → Bool
-ofBook k b = onMarket book k && b
+-- 18, 17 and 16, each asked of the table that a message goes to: a book message's of the books, a strip message's of the strips, which never give 16
+unfoldable pub unsoundFor : Kind → List ℕ → Tables → Bool
+unsoundFor (Session s) m x = false
+unsoundFor (Market Book) m x = unsound m (x .books)
+unsoundFor (Market Strip) m x = strip.unsound m (x .strips)
+unsoundFor (Market Other) m x = false
 
--- a market message other than 53
+unfoldable pub noSlotFor : Kind → List ℕ → Tables → Bool
+noSlotFor (Session s) m x = false
+noSlotFor (Market Book) m x = noSlot m (x .books)
+noSlotFor (Market Strip) m x = strip.noSlot m (x .strips)
+noSlotFor (Market Other) m x = false
+
+unfoldable pub misfitsFor : Kind → ℕ → List ℕ → Tables → Bool
+misfitsFor (Session s) time m x = false
+misfitsFor (Market Book) time m x = misfits time m (x .books)
+misfitsFor (Market Strip) time m x = false
+misfitsFor (Market Other) time m x = false
+
+-- a market message other than 53, and by document 02, request 2, other than the strip's: "such a message is now Taken"
 unfoldable pub passed : Kind → Bool
-passed k = onMarket (λ d. not (book d)) k
+passed k = onMarket (λ d. not (tabled d)) k
 
 -- the table of document 01 from its second row on (its first, 19, is newGiven's): what a feed decides by itself ..
 unfoldable pub lineTests : Feed → ℕ → News → List (Bool × Answer)
@@ -94,9 +111,9 @@ lineTests f time n =
 -- .. and what needs tables
 unfoldable pub tableTests : Tables → ℕ → News → List (Bool × Answer)
 tableTests x time n =
-    (onMessage (λ seq internal m. ofBook (kind m) (unsound m (x .books))) n, Spoil 18)
-    ∷ (onMessage (λ seq internal m. ofBook (kind m) (noSlot m (x .books))) n, Spoil 17)
-    ∷ (onMessage (λ seq internal m. ofBook (kind m) (misfits time m (x .books))) n, Spoil 16)
+    (onMessage (λ seq internal m. unsoundFor (kind m) m x) n, Spoil 18)
+    ∷ (onMessage (λ seq internal m. noSlotFor (kind m) m x) n, Spoil 17)
+    ∷ (onMessage (λ seq internal m. misfitsFor (kind m) time m x) n, Spoil 16)
     ∷ (onMessage (λ seq internal m. passed (kind m)) n, Take 2)
     ∷ []
 

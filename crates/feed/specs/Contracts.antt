@@ -4,7 +4,7 @@ use mathlib.Core.Path.{_≡_}
 use mathlib.Core.List.{List}
 use Rattle.feed.specs.Feeds.{newGiven, badgeOf}
 use Rattle.feed.specs.Events.{Tables, Connect, Arrive, Cut}
-use Rattle.feed.specs.Steps.{lent, stateOf, outOf, outcome}
+use Rattle.feed.specs.Steps.{stateOf, outOf, outcome}
 use Rattle.feed.specs.Reasons.{why}
 use Rattle.feed.specs.declared.Feed.{Feed}
 use Rattle.feed.specs.declared.Given.{Given}
@@ -19,12 +19,12 @@ NewSays limit r = r ≡ newGiven limit
 abbrev pub ConnectSays : Feed → Link → ℕ → Given → Type 0
 ConnectSays f link time r = (x : Tables) → outOf r x ≡ outcome (stateOf f x) (Connect link time)
 
--- Feed::arrive, and Feed::arrive_cut: answer, bytes used, feed, and every word of the books after it
-abbrev pub ArriveSays : Feed → List ℕ → List ℕ → ℕ → Given → List ℕ → Type 0
-ArriveSays f books bytes time r after = outOf r (lent after) ≡ outcome (stateOf f (lent books)) (Arrive bytes time)
+-- Feed::arrive, and Feed::arrive_cut: answer, bytes used, feed, and every word of every table after it
+abbrev pub ArriveSays : Feed → Tables → List ℕ → ℕ → Given → Tables → Type 0
+ArriveSays f x bytes time r after = outOf r after ≡ outcome (stateOf f x) (Arrive bytes time)
 
-abbrev pub CutSays : Feed → List ℕ → ℕ → ℕ → List ℕ → ℕ → Given → List ℕ → Type 0
-CutSays f books seq internal m time r after = outOf r (lent after) ≡ outcome (stateOf f (lent books)) (Cut seq internal m time)
+abbrev pub CutSays : Feed → Tables → ℕ → ℕ → List ℕ → ℕ → Given → Tables → Type 0
+CutSays f x seq internal m time r after = outOf r after ≡ outcome (stateOf f x) (Cut seq internal m time)
 
 -- Feed::badge
 abbrev pub BadgeSays : Feed → ℕ → Badge → Type 0

@@ -8,16 +8,18 @@ use Rattle.wire.specs.declared.Unit.{Unit}
 use Rattle.wire.specs.declared.Unit.the-variants as unit
 use Rattle.slots.specs.Layout.{clearedIn}
 use Rattle.books.specs.Table.{books}
+use Rattle.strips.specs.Table.{strips}
 use Rattle.feed.specs.declared.Feed.{Feed}
 use Rattle.feed.specs.declared.Link.{Link}
 
 -- all that is lent
 pub record Tables : Type 0 where
   pub books : List ℕ
+  pub strips : List ℕ
 
--- "Clearing zeroes all slots"
+-- "Clearing zeroes all slots", and "Both tables clear together"
 abbrev pub clearedTables : Tables → Tables
-clearedTables x = record { books = clearedIn books (x .books) }
+clearedTables x = record { books = clearedIn books (x .books); strips = clearedIn strips (x .strips) }
 
 -- a feed, and the tables that are lent with it
 pub record State : Type 0 where

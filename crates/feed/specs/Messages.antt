@@ -1,6 +1,6 @@
 -- What a message is by its type, its right size, and the statuses that are listed (document 01, "One unit", "The feed"). Assumes nothing.
 use Prim.Native.Nat.{ℕ}
-use mathlib.Core.Bool.{Bool, true, false, not, _||_}
+use mathlib.Core.Bool.{Bool, true, false, cond, not, _||_}
 use mathlib.Core.List.{List, [], _∷_}
 use lib.ListN.{length}
 use lib.Dec.{ltb, eqb}
@@ -8,17 +8,18 @@ use Rattle.ground.specs.Choice.{oneOf, pick}
 use Rattle.wire.specs.Number.{field}
 use Rattle.wire.specs.Units.{msgSize, msgType}
 use Rattle.ladder.specs.Message.{bookSized, listedBook}
+use Rattle.strips.specs.Forms.{isStrip, stripSized, listedStrip}
 use Rattle.feed.specs.declared.Kind.{Kind}
 use Rattle.feed.specs.declared.Kind.the-variants.{Session, Market}
 use Rattle.feed.specs.declared.Session.the-variants.{SendKey, Logon, Logout, Refresh, Complete, Request}
 use Rattle.feed.specs.declared.Datum.{Datum}
-use Rattle.feed.specs.declared.Datum.the-variants.{Book, Other}
+use Rattle.feed.specs.declared.Datum.the-variants.{Book, Strip, Other}
 use Rattle.feed.specs.declared.Status.{Status}
 use Rattle.feed.specs.declared.Status.the-variants.{Opens, Refills, Stays, Closes, Unlisted}
 
--- what a market message brings
+-- what a market message brings: a book's entries; a price strip's values (document 02, request 2: types 40, 41, 43, 56, 62); something else
 unfoldable pub datumOf : ℕ → Datum
-datumOf t = pick t ((53, Book) ∷ []) Other
+datumOf t = pick t ((53, Book) ∷ []) (cond (isStrip t) Strip Other)
 
 -- "A market message is any type other than 203, 1101, 1102, 1103, 1105, 1201 and 1202"
 unfoldable pub kindOf : ℕ → Kind
@@ -45,11 +46,14 @@ onMarket test (Market d) = test d
 unfoldable pub market : Kind → Bool
 market k = onMarket (λ d. true) k
 
-unfoldable pub book : Datum → Bool
-book Book = true
-book Other = false
+-- what goes to a table; the rest is passed over
+unfoldable pub tabled : Datum → Bool
+tabled Book = true
+tabled Strip = true
+tabled Other = false
 
--- "types 203, 1102, 1103, 1202 are 8 bytes. Type 53 is 12 + 24 x NoEntries .. All others, 1105 included: at least 4"
+-- "types 203, 1102, 1103, 1202 are 8 bytes. Type 53 is 12 + 24 x NoEntries .. All others, 1105 included: at least 4"; document 02, request 2:
+-- 40 is 12 bytes, 41, 43 and 56 are 20, 62 is 16
 abbrev pub least : ℕ
 least = 4
 
@@ -64,6 +68,7 @@ sized (Session Refresh) m = eight m
 sized (Session SendKey) m = true
 sized (Session Request) m = true
 sized (Market Book) m = bookSized m
+sized (Market Strip) m = stripSized m
 sized (Market Other) m = true
 
 -- 12: "size wrong, or given part under 4 bytes or not MsgSize long"
@@ -106,7 +111,7 @@ status m = field 4 1 m
 abbrev pub lastInternal : List ℕ → ℕ
 lastInternal m = field 4 4 m
 
--- 15: "status, or in type 53 code (1 to 99,999), side, level or action, not listed", where this fails
+-- 15: "status, or in type 53 code (1 to 99,999), side, level or action, not listed", and by document 02, request 2, a strip's code or direction, where this fails
 unfoldable pub listed : Kind → List ℕ → Bool
 listed (Session Complete) m = true
 listed (Session Logon) m = listedStatus (statusOf (logonStatus m))
@@ -115,4 +120,5 @@ listed (Session Refresh) m = eqb (status m) 0
 listed (Session SendKey) m = true
 listed (Session Request) m = true
 listed (Market Book) m = listedBook m
+listed (Market Strip) m = listedStrip m
 listed (Market Other) m = true

@@ -37,13 +37,16 @@ follow (suc calls) s x =
     let rest : Stand = follow calls (drop (o .given .used) s) (record { answer = after .answer; units = x .units + 1; state = after .state }) in
     cond (accepted (o .given .answer)) rest after
 
--- "128 slots" of 64 words
+-- "128 slots" of 64 words; and as many strips of 12 (DECISIONS 60)
 abbrev pub tableWords : ℕ
 tableWords = 8192
 
+abbrev pub stripWords : ℕ
+stripWords = 1536
+
 -- "fresh connect, time 0, limit 1,000, 128 slots"
 abbrev pub connection : State
-connection = step (record { feed = newFeed 1000; tables = record { books = replicate tableWords 0 } }) (Connect Fresh 0)
+connection = step (record { feed = newFeed 1000; tables = record { books = replicate tableWords 0; strips = replicate stripWords 0 } }) (Connect Fresh 0)
 
 abbrev pub programRun : List ℕ → Stand
 programRun s = follow (length s + 1) s (record { answer = 0; units = 0; state = connection })

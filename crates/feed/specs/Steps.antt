@@ -4,6 +4,7 @@ use mathlib.Core.Bool.{Bool, true, false, cond, _&&_}
 use mathlib.Core.List.{List}
 use lib.Dec.{leb}
 use Rattle.books.specs.Table.{booksAfter}
+use Rattle.strips.specs.Table.{stripsAfter}
 use Rattle.feed.specs.Messages.{kind, market, statusOf, logonStatus, lastInternal}
 use Rattle.feed.specs.Feeds.{is, inPhase, nextIs, internalIs, heardAt, wholeIs, freshIs}
 use Rattle.feed.specs.Events.{Tables, clearedTables, State, Event, timeOf, News, Linked, More, Heartbeat, Message, news, offered}
@@ -14,7 +15,7 @@ use Rattle.feed.specs.declared.Kind.the-variants.{Session, Market}
 use Rattle.feed.specs.declared.Session as session
 use Rattle.feed.specs.declared.Session.the-variants.{SendKey, Logon, Logout, Refresh, Complete, Request}
 use Rattle.feed.specs.declared.Datum.{Datum}
-use Rattle.feed.specs.declared.Datum.the-variants.{Book, Other}
+use Rattle.feed.specs.declared.Datum.the-variants.{Book, Strip, Other}
 use Rattle.feed.specs.declared.Status.{Status}
 use Rattle.feed.specs.declared.Status.the-variants.{Opens, Refills, Stays, Closes, Unlisted}
 use Rattle.feed.specs.declared.Link.{Link}
@@ -69,9 +70,11 @@ clears Refresh m fresh = false
 clears Complete m fresh = false
 clears Request m fresh = false
 
--- the tables after a market message that is taken or passed over at a time
+-- the tables after a market message that is taken or passed over at a time: a book message leaves every word of the strips, a strip message every
+-- word of the books
 unfoldable pub tablesAfter : Datum → ℕ → List ℕ → Tables → Tables
-tablesAfter Book time m x = record { books = booksAfter time m (x .books) }
+tablesAfter Book time m x = record { books = booksAfter time m (x .books); strips = x .strips }
+tablesAfter Strip time m x = record { books = x .books; strips = stripsAfter m (x .strips) }
 tablesAfter Other time m x = x
 
 -- what a message does, but for its numbers and the time: 1105 "to WaitLogon"; 1102; 1103 "to Closed"; 1202 "stays";
@@ -124,9 +127,9 @@ pub record Outcome : Type 0 where
   pub given : Given
   pub tables : Tables
 
--- the tables that are lent: the books' words
-abbrev pub lent : List ℕ → Tables
-lent books = record { books = books }
+-- the tables that are lent: the words of the books, and of the strips
+abbrev pub lent : List ℕ → List ℕ → Tables
+lent books strips = record { books = books; strips = strips }
 
 -- a feed with tables, and what a call hands back with the tables after it
 abbrev pub stateOf : Feed → Tables → State

@@ -1,4 +1,4 @@
-// Arrivals of bytes and of messages already cut: judge, then act on the table.
+// Arrivals of bytes and of messages already cut: judge, then act on the tables.
 use super::Answer;
 use super::Datum;
 use super::Feed;
@@ -13,11 +13,19 @@ ghost use mathlib.Core.Bool.{false, cond};
 ghost use Prim.Native.Nat.{_≤_};
 ghost use Rattle.feed.specs.Messages.{kind as kindIn, wrongSize};
 ghost use Rattle.feed.specs.Feeds.{inPhase, wholeIs};
-ghost use Rattle.feed.specs.Events.{Cut};
+ghost use Rattle.feed.specs.Events.{clearedTables, Cut};
 ghost use Rattle.feed.specs.Contracts.{ArriveSays, CutSays};
 ghost use Rattle.feed.specs.Answers.{lastSeqNum};
 ghost use Rattle.feed.specs.Steps.{advanced as advancedAt, counted, accepted, lent, stateOf, outOf};
 ghost use Rattle.feed.specs.Code.Judging.{answered, onTables};
+
+// Every slot of both tables emptied.
+fn clear(books: &mut [u64], strips: &mut [u64])
+    ensures { λ _. ⌜ lent (now (books .exit)) (now (strips .exit)) ≡ clearedTables (lent (now (books .entry)) (now (strips .entry))) ⌝ }
+{
+    books::clear(books);
+    strips::clear(strips);
+}
 
 // What arrives, and all that is written.
 impl Feed {
@@ -33,20 +41,29 @@ impl Feed {
     }
 
     // A message that the feed leaves to the tables: what they make of it, and of the feed. All that is written is written here.
-    fn act(self, table: &mut [u64], kind: Kind, internal: u32, message: &[u8], time: u64) -> Given
+    fn act(
+        self,
+        books: &mut [u64],
+        strips: &mut [u64],
+        kind: Kind,
+        internal: u32,
+        message: &[u8],
+        time: u64,
+    ) -> Given
         requires { ⌜ (kind ≡ kindIn (now message)) × (wrongSize (now message) ≡ false) × (self .next ≤ lastSeqNum) ⌝ }
-        ensures { λ r. ⌜ outOf r (lent (now (table .exit))) ≡ onTables (stateOf self (lent (now (table .entry)))) (Cut (self .next) internal (now (message .entry)) time) ⌝ }
+        ensures { λ r. ⌜ outOf r (lent (now (books .exit)) (now (strips .exit))) ≡ onTables (stateOf self (lent (now (books .entry)) (now (strips .entry)))) (Cut (self .next) internal (now (message .entry)) time) ⌝ }
     {
         match kind {
             Kind::Session(session) => {
                 if self.is_clearing(session, message) {
-                    books::clear(table);
+                    clear(books, strips);
                     return self.done(session, message, time).kept(0);
                 }
                 self.done(session, message, time).kept(0)
             }
             Kind::Market(datum) => match datum {
-                Datum::Book => self.market(books::take(table, message, time), internal, time),
+                Datum::Book => self.market(books::take(books, message, time), internal, time),
+                Datum::Strip => self.market(strips::take(strips, message), internal, time),
                 Datum::Other => self.numbered(internal, time).kept(2),
             },
         }
@@ -55,13 +72,14 @@ impl Feed {
     // The two numbers and a message already cut: never More, never a heartbeat, no bytes used.
     pub fn arrive_cut(
         self,
-        table: &mut [u64],
+        books: &mut [u64],
+        strips: &mut [u64],
         seq: u32,
         internal: u32,
         message: &[u8],
         time: u64,
     ) -> Given
-        ensures { λ r. ⌜ CutSays self (now (table .entry)) seq internal (now (message .entry)) time r (now (table .exit)) ⌝ }
+        ensures { λ r. ⌜ CutSays self (lent (now (books .entry)) (now (strips .entry))) seq internal (now (message .entry)) time r (lent (now (books .exit)) (now (strips .exit))) ⌝ }
     {
         let kind = kind_in(message);
         let verdict = self.verdict(kind, seq, internal, message, time);
@@ -70,13 +88,13 @@ impl Feed {
             Answer::Lose(n) => self.lost(n),
             Answer::Spoil(n) => self.spoilt(n),
             Answer::Skip(n) => self.advanced(time).kept(n),
-            Answer::Take(_) => self.act(table, kind, internal, message, time),
+            Answer::Take(_) => self.act(books, strips, kind, internal, message, time),
         }
     }
 
     // An arrival of bytes.
-    pub fn arrive(self, table: &mut [u64], bytes: &[u8], time: u64) -> Given
-        ensures { λ r. ⌜ ArriveSays self (now (table .entry)) (now (bytes .entry)) time r (now (table .exit)) ⌝ }
+    pub fn arrive(self, books: &mut [u64], strips: &mut [u64], bytes: &[u8], time: u64) -> Given
+        ensures { λ r. ⌜ ArriveSays self (lent (now (books .entry)) (now (strips .entry))) (now (bytes .entry)) time r (lent (now (books .exit)) (now (strips .exit))) ⌝ }
     {
         let front = Cursor { at: 0 };
         let unit = front.read(bytes);
@@ -97,7 +115,7 @@ impl Feed {
         };
         let used = wire::HEADER_BYTES + size;
         let message = front.message(bytes, size);
-        self.arrive_cut(table, seq, internal, message, time)
+        self.arrive_cut(books, strips, seq, internal, message, time)
             .using(used)
     }
 }

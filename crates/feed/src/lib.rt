@@ -77,9 +77,10 @@ pub enum Session {
     Request,
 }
 
-// The market messages: type 53, and those that are passed over.
+// The market messages: type 53; those of the price strip; and those that are passed over.
 pub enum Datum {
     Book,
+    Strip,
     Other,
 }
 

@@ -26,6 +26,9 @@ fn datum_of(t: u64) -> Datum
     if t == 53 {
         return Datum::Book;
     }
+    if strips::is_strip(t) {
+        return Datum::Strip;
+    }
     Datum::Other
 }
 
@@ -85,6 +88,7 @@ fn is_sized(kind: Kind, m: &[u8]) -> bool
         Kind::Session(session) => is_session_sized(session, m),
         Kind::Market(datum) => match datum {
             Datum::Book => is_book_sized(m),
+            Datum::Strip => strips::is_sized(m),
             Datum::Other => true,
         },
     }
@@ -174,6 +178,7 @@ pub(crate) fn is_listed(kind: Kind, m: &[u8]) -> bool
         Kind::Session(session) => is_session_listed(session, m),
         Kind::Market(datum) => match datum {
             Datum::Book => books::is_listed(m),
+            Datum::Strip => strips::is_listed(m),
             Datum::Other => true,
         },
     }

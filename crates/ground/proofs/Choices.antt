@@ -6,7 +6,7 @@ use mathlib.Core.Bool.{Bool, true, false, cond, not, _&&_, _||_}
 use mathlib.Core.List.{List, [], _∷_, _++_}
 use lib.Dec.{T, eqb, eqb→eq}
 use lib.ListN.{length, getD, set}
-use Rattle.ground.specs.Choice.{oneOf, first, all}
+use Rattle.ground.specs.Choice.{oneOf, pick, first, all}
 use Rattle.ground.proofs.Bools.{both, join}
 
 -- tests in order, each of which has the property beside it or does not pass: what is picked has the property
@@ -115,3 +115,15 @@ module _ {A : Type 0} (f : A → Bool) where
   all-set (suc k) r (a ∷ l) p e =
       let t = both (f a) (all f l) e in
       join (f a) (all f (set l k r)) (t .0) (all-set k r l p (t .1))
+
+-- what is picked by its number has a property that nothing in the list has: so it is the other
+pub pick-other : {A : Type 0} (g : A → Bool) (x : ℕ) (ps : List (ℕ × A)) (other : A) → T (g (pick x ps other)) → T (all (λ p. not (g (p .1))) ps) → T (g other)
+unfolding pick all
+pick-other g x [] other h n = h
+pick-other {A} g x (p ∷ ps) other h n = go (eqb x (p .0)) (g (p .1)) refl h n (pick-other g x ps other)
+  where
+    go : (b c : Bool) → c ≡ g (p .1) → T (g (cond b (p .1) (pick x ps other))) → T (not c && all (λ p. not (g (p .1))) ps)
+        → (T (g (pick x ps other)) → T (all (λ p. not (g (p .1))) ps) → T (g other)) → T (g other)
+    go b true e h n rest = absurd n
+    go true false e h n rest = absurd (subst (λ (x : Bool). T x) (sym e) h)
+    go false false e h n rest = rest h n

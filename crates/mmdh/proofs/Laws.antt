@@ -14,7 +14,7 @@ use Rattle.ground.specs.Choice as choice
 use Rattle.ladder.specs.Words.{bookWidth}
 use Rattle.feed.specs.Feeds.{listedLimit, newGiven}
 use Rattle.feed.specs.Events.{Tables, Connect, Arrive}
-use Rattle.feed.specs.Steps.{Outcome, accepted, lent, stateOf, outOf, handed, outcome}
+use Rattle.feed.specs.Steps.{Outcome, accepted, stateOf, outOf, handed, outcome}
 use Rattle.feed.specs.Program.{connection}
 use Rattle.feed.specs.declared.Given.{Given}
 use Rattle.feed.specs.declared.Link.the-variants.{Fresh}
@@ -32,11 +32,11 @@ connects new given e h =
     let x : Tables = record { books = replicate (slots * bookWidth) 0 } in
     ap (λ (o : Outcome). o .given .feed) (h x) ∙ ap (λ (n : Given). outcome (record { feed = n .feed; tables = x }) (Connect Fresh 0) .given .feed) e
 
-module _ (r : Run) (buf t u : List ℕ) (g : Given) (w : Within r buf) (e : outOf g (lent u) ≡ outcome (stateOf (r .feed) (lent t)) (Arrive (left r buf) 0)) where
+module _ (r : Run) (buf : List ℕ) (t u : Tables) (g : Given) (w : Within r buf) (e : outOf g u ≡ outcome (stateOf (r .feed) t) (Arrive (left r buf) 0)) where
   -- the bytes used are among those that are left
   pub call-fits : g .used ≤ r .to - r .from
   call-fits =
-      let h : outcome (stateOf (r .feed) (lent t)) (Arrive (left r buf) 0) .given .used ≤ length (left r buf) = used-fits (stateOf (r .feed) (lent t)) (left r buf) 0 in
+      let h : outcome (stateOf (r .feed) t) (Arrive (left r buf) 0) .given .used ≤ length (left r buf) = used-fits (stateOf (r .feed) t) (left r buf) 0 in
       let f : g .used ≤ length (left r buf) = rw (ap (λ (o : Outcome). o .given .used) e) h in
       omega (arith, simp (length-take, length-drop) at f)
 

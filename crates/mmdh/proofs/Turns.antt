@@ -9,7 +9,8 @@ use lib.ListN.{length, take, drop, length-append, length-drop, take-append-drop}
 use lib.Seq.{take-add, drop-at, drop-drop, length-take-le}
 use borrow.Author.Needs.{needs}
 use borrow.Author.Tests.{ltb-true, ltb-false, leb-true, leb-false, le-leb, lt-leb, not-true, not-false}
-use Rattle.feed.specs.Steps.{Outcome, accepted, lent, stateOf, outOf}
+use Rattle.feed.specs.Events.{Tables}
+use Rattle.feed.specs.Steps.{Outcome, accepted, stateOf, outOf}
 use Rattle.feed.specs.Program.{bufferSize}
 use Rattle.feed.proofs.Following.{keeps, wanting, used-some}
 use Rattle.mmdh.specs.Code.Runs.{Within, left, standOf, runFrom, Called, Refilled, Turned, Drained}
@@ -31,9 +32,9 @@ left-length r buf w =
     let inside : r .to ≤ length buf = w .inside in
     length-take-le (r .to - r .from) (drop (r .from) buf) (simp length-drop (omega arith))
 
-module _ (r q : Run) (buf t u : List ℕ) (w : Within r buf) (c : Called r q buf t u) where
+module _ (r q : Run) (buf : List ℕ) (t u : Tables) (w : Within r buf) (c : Called r q buf t u) where
   abbrev made : Outcome
-  made = outOf (record { answer = q .answer; used = q .from - r .from; feed = q .feed }) (lent u)
+  made = outOf (record { answer = q .answer; used = q .from - r .from; feed = q .feed }) u
 
   short : length (left r buf) ≤ bufferSize
   short =
@@ -74,7 +75,7 @@ module _ (r q : Run) (buf t u : List ℕ) (w : Within r buf) (c : Called r q buf
             let k : q .units ≡ r .units + 1 = rw a at (c .units) in
             call-goes (left r buf) (standOf r t) made short (c .made) n rest a ∙ rw (left-on, ← k);
         pays = λ h.
-            let a : 20 ≤ q .from - r .from = rw (ap (λ (o : Outcome). o .given .used) (c .made)) (used-some (stateOf (r .feed) (lent t)) (left r buf) 0
+            let a : 20 ≤ q .from - r .from = rw (ap (λ (o : Outcome). o .given .used) (c .made)) (used-some (stateOf (r .feed) t) (left r buf) 0
             (sym (ap (λ (o : Outcome). accepted (o .given .answer)) (c .made)) ∙ goes-on h)) in
             let end : q .to ≡ r .to = c .end in
             let order : q .from ≤ q .to = c .within .order in
@@ -87,8 +88,8 @@ module _ (r q : Run) (buf t u : List ℕ) (w : Within r buf) (c : Called r q buf
 
   -- a turn whose call is answered 3: what is read follows what is left
   module _ (p : Run) (after : List ℕ) (three : q .answer ≡ 3) (f : Refilled q p buf after) where
-    kept-all : made ≡ keeps 3 (stateOf (r .feed) (lent t))
-    kept-all = c .made ∙ wanting (stateOf (r .feed) (lent t)) (left r buf) 0 (sym (ap (λ (o : Outcome). o .given .answer) (c .made)) ∙ three)
+    kept-all : made ≡ keeps 3 (stateOf (r .feed) t)
+    kept-all = c .made ∙ wanting (stateOf (r .feed) t) (left r buf) 0 (sym (ap (λ (o : Outcome). o .given .answer) (c .made)) ∙ three)
 
     still-left : left q buf ≡ left r buf
     still-left =
@@ -101,13 +102,13 @@ module _ (r q : Run) (buf t u : List ℕ) (w : Within r buf) (c : Called r q buf
     both : left p after ≡ left r buf ++ came
     both = sym (take-append-drop (q .to - q .from) (left p after)) ∙ ap (λ (l : List ℕ). l ++ came) (f .kept ∙ still-left)
 
-    stands : standOf p u ≡ record { answer = 3; units = r .units; state = stateOf (r .feed) (lent t) }
+    stands : standOf p u ≡ record { answer = 3; units = r .units; state = stateOf (r .feed) t }
     stands =
         let a : p .answer ≡ 3 = f .answer ∙ three in
         let n : q .units ≡ r .units = rw three at (c .units) in
         let m : p .units ≡ r .units = f .units ∙ n in
         let g : p .feed ≡ r .feed = f .feed ∙ ap (λ (o : Outcome). o .given .feed) kept-all in
-        let b : u ≡ t = ap (λ (o : Outcome). o .tables .books) kept-all in
+        let b : u ≡ t = ap (λ (o : Outcome). o .tables) kept-all in
         rw (a, m, g, b)
 
     pub turn-refilled : Turned 1 r p buf t after u
@@ -124,8 +125,8 @@ module _ (r q : Run) (buf t u : List ℕ) (w : Within r buf) (c : Called r q buf
           within = f .within;
           counts = omega (arith, counted);
           goes = λ h rest.
-              answer-free (left r buf ++ (came ++ rest)) (r .answer) 3 (r .units) (stateOf (r .feed) (lent t))
-              ∙ ap (λ (l : List ℕ). runFrom l (record { answer = 3; units = r .units; state = stateOf (r .feed) (lent t) }))
+              answer-free (left r buf ++ (came ++ rest)) (r .answer) 3 (r .units) (stateOf (r .feed) t)
+              ∙ ap (λ (l : List ℕ). runFrom l (record { answer = 3; units = r .units; state = stateOf (r .feed) t }))
               (sym (append-assoc (left r buf) came rest) ∙ ap (λ (l : List ℕ). l ++ rest) (sym both))
               ∙ ap (runFrom (left p after ++ rest)) (sym stands);
           pays = λ h.
@@ -156,10 +157,10 @@ module _ (r q : Run) (buf t u : List ℕ) (w : Within r buf) (c : Called r q buf
     where
       go : Dec (q .answer ≡ 3) → runFrom (left r buf) (standOf r t) ≡ standOf q u
       go (yes three) =
-          let all : made ≡ keeps 3 (stateOf (r .feed) (lent t)) = c .made ∙ wanting (stateOf (r .feed) (lent t)) (left r buf) 0 (sym (ap (λ (o : Outcome). o .given .answer) (c .made)) ∙ three) in
+          let all : made ≡ keeps 3 (stateOf (r .feed) t) = c .made ∙ wanting (stateOf (r .feed) t) (left r buf) 0 (sym (ap (λ (o : Outcome). o .given .answer) (c .made)) ∙ three) in
           let n : q .units ≡ r .units = rw three at (c .units) in
           let g : q .feed ≡ r .feed = ap (λ (o : Outcome). o .given .feed) all in
-          let b : u ≡ t = ap (λ (o : Outcome). o .tables .books) all in
+          let b : u ≡ t = ap (λ (o : Outcome). o .tables) all in
           call-wants (left r buf) (standOf r t) short (sym (c .made) ∙ all) ∙ rw (three, n, g, b)
       go (no n) =
           let a : accepted (q .answer) ≡ false = stops h in
@@ -170,7 +171,7 @@ module _ (r q : Run) (buf t u : List ℕ) (w : Within r buf) (c : Called r q buf
 
   spent : q .over ≡ false → q .to - q .from < r .to - r .from
   spent h =
-      let a : 20 ≤ q .from - r .from = rw (ap (λ (o : Outcome). o .given .used) (c .made)) (used-some (stateOf (r .feed) (lent t)) (left r buf) 0
+      let a : 20 ≤ q .from - r .from = rw (ap (λ (o : Outcome). o .given .used) (c .made)) (used-some (stateOf (r .feed) t) (left r buf) 0
       (sym (ap (λ (o : Outcome). accepted (o .given .answer)) (c .made)) ∙ goes-on h)) in
       let end : q .to ≡ r .to = c .end in
       let order : q .from ≤ q .to = c .within .order in
@@ -188,10 +189,11 @@ module _ (r q : Run) (buf t u : List ℕ) (w : Within r buf) (c : Called r q buf
           omega arith
 
 -- the calls so far of a run to which no more bytes come
-pub record Draining (r q : Run) (buf table tableNow : List ℕ) : Type 0 where
+pub record Draining (r q : Run) (buf : List ℕ) (table tableNow : Tables) : Type 0 where
   pub within : Within q buf
   pub room : q .units + (q .to - q .from) < 18446744073709551615
-  pub words : length tableNow ≡ length table
+  pub words : length (tableNow .books) ≡ length (table .books)
+  pub stripped : length (tableNow .strips) ≡ length (table .strips)
   pub on : r .over ≡ false → q .over ≡ false → runFrom (left r buf) (standOf r table) ≡ runFrom (left q buf) (standOf q tableNow)
   pub ends : r .over ≡ false → q .over ≡ true → runFrom (left r buf) (standOf r table) ≡ standOf q tableNow
   pub same : r .over ≡ true → (q .over ≡ true) × (standOf q tableNow ≡ standOf r table)
@@ -203,28 +205,30 @@ toDo r = cond (r .over) 0 (1 + (r .to - r .from))
 opposite : (b : Bool) → b ≡ true → b ≡ false → ⊥
 opposite b t f = let z : _≡_ {A = ℕ} 0 1 = cc in omega arith
 
-pub drain-starts : (r : Run) (buf t : List ℕ) → Within r buf → r .units ≤ 9223372036854775808 → Draining r r buf t t
+pub drain-starts : (r : Run) (buf : List ℕ) (t : Tables) → Within r buf → r .units ≤ 9223372036854775808 → Draining r r buf t t
 drain-starts r buf t w h =
     let inside : r .to ≤ length buf = w .inside in
     let size : length buf ≡ bufferSize = w .size in
-    record { within = w; room = omega arith; words = refl; on = λ f g. refl; ends = λ f g. absurd (opposite (r .over) g f); same = λ f. (f, refl) }
+    record { within = w; room = omega arith; words = refl; stripped = refl; on = λ f g. refl; ends = λ f g. absurd (opposite (r .over) g f); same = λ f. (f, refl) }
 
-pub drain-counts : (r q : Run) (buf t u : List ℕ) → Draining r q buf t u → q .units < 18446744073709551615
+pub drain-counts : (r q : Run) (buf : List ℕ) (t u : Tables) → Draining r q buf t u → q .units < 18446744073709551615
 drain-counts r q buf t u d = omega (arith, d .room)
 
-pub drain-goes : (r q p : Run) (buf t u v : List ℕ) → Draining r q buf t u → not (q .over) ≡ true → Called q p buf u v → length v ≡ length u → Draining r p buf t v
-drain-goes r q p buf t u v d n c w =
+pub drain-goes : (r q p : Run) (buf : List ℕ) (t u v : Tables) → Draining r q buf t u → not (q .over) ≡ true → Called q p buf u v → length (v .books) ≡ length (u .books)
+    → length (v .strips) ≡ length (u .strips) → Draining r p buf t v
+drain-goes r q p buf t u v d n c w z =
     let f : q .over ≡ false = not-true (q .over) n in
     record {
       within = c .within;
       room = omega (arith, d .room, no-more q p buf u v (d .within) c);
       words = w ∙ d .words;
+      stripped = z ∙ d .stripped;
       on = λ a b. d .on a f ∙ call-on q p buf u v (d .within) c b;
       ends = λ a b. d .on a f ∙ call-last q p buf u v (d .within) c b;
       same = λ a. absurd (opposite (q .over) (d .same a .0) f);
     }
 
-pub drain-less : (r q p : Run) (buf t u v : List ℕ) → Draining r q buf t u → not (q .over) ≡ true → Called q p buf u v → toDo p < toDo q
+pub drain-less : (r q p : Run) (buf : List ℕ) (t u v : Tables) → Draining r q buf t u → not (q .over) ≡ true → Called q p buf u v → toDo p < toDo q
 drain-less r q p buf t u v d n c = go (p .over) refl
   where
     f : q .over ≡ false
@@ -234,13 +238,13 @@ drain-less r q p buf t u v d n c = go (p .over) refl
     go true e = rw (e, not-true (q .over) n) (omega arith)
     go false e = rw (e, not-true (q .over) n) (omega (arith, spent q p buf u v (d .within) c e))
 
-pub drain-ends : (r q : Run) (buf t u : List ℕ) → Draining r q buf t u → not (q .over) ≡ false → Drained r q buf t u
+pub drain-ends : (r q : Run) (buf : List ℕ) (t u : Tables) → Draining r q buf t u → not (q .over) ≡ false → Drained r q buf t u
 drain-ends r q buf t u d n =
     let o : q .over ≡ true = not-false (q .over) n in
     record { over = o; ends = λ a. d .ends a o; same = λ a. d .same a .1 }
 
 -- no turn
-turned-none : (r : Run) (buf t : List ℕ) → Within r buf → r .over ≡ false → Turned 0 r r buf t buf t
+turned-none : (r : Run) (buf : List ℕ) (t : Tables) → Within r buf → r .over ≡ false → Turned 0 r r buf t buf t
 turned-none r buf t w h =
     record {
       came = [];
@@ -252,7 +256,7 @@ turned-none r buf t w h =
     }
 
 -- a turn after others
-turned-one : (k : ℕ) (a b c : Run) (x t y u z v : List ℕ) → Turned k a b x t y u → b .over ≡ false → Turned 1 b c y u z v → Turned (k + 1) a c x t z v
+turned-one : (k : ℕ) (a b c : Run) (x : List ℕ) (t : Tables) (y : List ℕ) (u : Tables) (z : List ℕ) (v : Tables) → Turned k a b x t y u → b .over ≡ false → Turned 1 b c y u z v → Turned (k + 1) a c x t z v
 turned-one k a b c x t y u z v p h q =
     record {
       came = p .came ++ q .came;
@@ -264,25 +268,26 @@ turned-one k a b c x t y u z v p h q =
     }
 
 -- the turns of the loop so far
-pub record Looped (start r : Run) (turns : ℕ) (buf table bufNow tableNow : List ℕ) : Type 0 where
+pub record Looped (start r : Run) (turns : ℕ) (buf : List ℕ) (table : Tables) (bufNow : List ℕ) (tableNow : Tables) : Type 0 where
   pub low : turns ≤ 9223372036854775808
   pub none : start .units ≡ 0
   pub buffer : length bufNow ≡ length buf
-  pub words : length tableNow ≡ length table
+  pub words : length (tableNow .books) ≡ length (table .books)
+  pub stripped : length (tableNow .strips) ≡ length (table .strips)
   pub turned : Turned (9223372036854775808 - turns) start r buf table bufNow tableNow
 
-pub loop-starts : (r : Run) (buf t : List ℕ) → Within r buf → r .units ≡ 0 → r .over ≡ false → Looped r r 9223372036854775808 buf t buf t
-loop-starts r buf t w n h = record { low = omega arith; none = n; buffer = refl; words = refl; turned = turned-none r buf t w h }
+pub loop-starts : (r : Run) (buf : List ℕ) (t : Tables) → Within r buf → r .units ≡ 0 → r .over ≡ false → Looped r r 9223372036854775808 buf t buf t
+loop-starts r buf t w n h = record { low = omega arith; none = n; buffer = refl; words = refl; stripped = refl; turned = turned-none r buf t w h }
 
-pub loop-within : (start r : Run) (turns : ℕ) (x t y u : List ℕ) → Looped start r turns x t y u → Within r y
+pub loop-within : (start r : Run) (turns : ℕ) (x : List ℕ) (t : Tables) (y : List ℕ) (u : Tables) → Looped start r turns x t y u → Within r y
 loop-within start r turns x t y u l = l .turned .within
 
-pub loop-counts : (start r : Run) (turns : ℕ) (x t y u : List ℕ) → Looped start r turns x t y u → 0 < turns → r .units < 18446744073709551615
+pub loop-counts : (start r : Run) (turns : ℕ) (x : List ℕ) (t : Tables) (y : List ℕ) (u : Tables) → Looped start r turns x t y u → 0 < turns → r .units < 18446744073709551615
 loop-counts start r turns x t y u l h = omega (arith, l .low, l .none, l .turned .counts)
 
-pub loop-goes : (start r q : Run) (turns : ℕ) (x t y u z v : List ℕ) → Looped start r turns x t y u → 0 < turns → r .over ≡ false → Turned 1 r q y u z v
-    → length z ≡ length y → length v ≡ length u → Looped start q (turns - 1) x t z v
-loop-goes start r q turns x t y u z v l h n p b w =
+pub loop-goes : (start r q : Run) (turns : ℕ) (x : List ℕ) (t : Tables) (y : List ℕ) (u : Tables) (z : List ℕ) (v : Tables) → Looped start r turns x t y u → 0 < turns → r .over ≡ false → Turned 1 r q y u z v
+    → length z ≡ length y → length (v .books) ≡ length (u .books) → length (v .strips) ≡ length (u .strips) → Looped start q (turns - 1) x t z v
+loop-goes start r q turns x t y u z v l h n p b w c =
     let low : turns ≤ 9223372036854775808 = l .low in
     let e : 9223372036854775808 - (turns - 1) ≡ 9223372036854775808 - turns + 1 = omega arith in
     record {
@@ -290,10 +295,11 @@ loop-goes start r q turns x t y u z v l h n p b w =
       none = l .none;
       buffer = b ∙ l .buffer;
       words = w ∙ l .words;
+      stripped = c ∙ l .stripped;
       turned = rw e (turned-one (9223372036854775808 - turns) start r q x t y u z v (l .turned) n p);
     }
 
-pub loop-over : (start r : Run) (turns : ℕ) (x t y u : List ℕ) → Looped start r turns x t y u → r .over ≡ true → Turned 9223372036854775808 start r x t y u
+pub loop-over : (start r : Run) (turns : ℕ) (x : List ℕ) (t : Tables) (y : List ℕ) (u : Tables) → Looped start r turns x t y u → r .over ≡ true → Turned 9223372036854775808 start r x t y u
 loop-over start r turns x t y u l h =
     let p = l .turned in
     record {
@@ -305,7 +311,7 @@ loop-over start r turns x t y u l h =
       ends = p .ends;
     }
 
-pub loop-spent : (start r : Run) (turns : ℕ) (x t y u : List ℕ) → Looped start r turns x t y u → turns ≤ 0 → Turned 9223372036854775808 start r x t y u
+pub loop-spent : (start r : Run) (turns : ℕ) (x : List ℕ) (t : Tables) (y : List ℕ) (u : Tables) → Looped start r turns x t y u → turns ≤ 0 → Turned 9223372036854775808 start r x t y u
 loop-spent start r turns x t y u l h =
     let e : 9223372036854775808 - turns ≡ 9223372036854775808 = omega arith in
     rw e at (l .turned)

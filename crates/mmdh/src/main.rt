@@ -11,8 +11,8 @@ ghost use Rattle.slots.specs.Layout.{slotsIn};
 ghost use Rattle.ladder.specs.Message.{depth};
 ghost use Rattle.ladder.specs.Words.{bookWidth, rowsFrom, sideWidth};
 ghost use Rattle.books.specs.Table.{books};
-ghost use Rattle.feed.specs.Steps.{accepted};
-ghost use Rattle.feed.specs.Program.{bufferSize, connection, sideLines, lines, tableWords};
+ghost use Rattle.feed.specs.Steps.{accepted, lent};
+ghost use Rattle.feed.specs.Program.{bufferSize, connection, sideLines, lines, tableWords, stripWords};
 ghost use Rattle.mmdh.specs.Code.Runs.{Within, Called, Refilled, Turned, Drained, Wrote};
 ghost use Rattle.mmdh.specs.Text.{decimal, signed, space, letter, lineText, linesText, endText, text};
 ghost use Rattle.mmdh.specs.Code.Rooms.{lineOf, shown, Put, sideRoom, bookRoom, booksRoom, textRoom, lineRoom, endRoom, priceRoom, numberRoom};
@@ -21,10 +21,12 @@ use feed::Link;
 use ladder::DEPTH;
 use ladder::Row;
 
-// The words of the table, and how many slots they have.
+// The words of the books, how many slots they have, and the words of as many strips.
 const TABLE_WORDS: usize = 8192;
 
 const SLOTS: usize = TABLE_WORDS / ladder::BOOK_WORDS;
+
+const STRIPS_WORDS: usize = SLOTS * strips::STRIP_WORDS;
 
 // The bytes that can be held, and the most that can be printed: a head of 37 bytes, the books, and a last line of 52.
 const BUFFER_BYTES: usize = 65536;
@@ -63,14 +65,14 @@ fn one_more(units: u64, answer: u64) -> u64
 }
 
 // One call at the bytes that are left.
-fn called(r: Run, table: &mut [u64], buf: &[u8]) -> Run
+fn called(r: Run, table: &mut [u64], strips: &mut [u64], buf: &[u8]) -> Run
     requires { ⌜ Within r (now buf) × (r .units < 18446744073709551615) ⌝ }
-    ensures { λ q. ⌜ Called r q (now (buf .entry)) (now (table .entry)) (now (table .exit)) ⌝ }
+    ensures { λ q. ⌜ Called r q (now (buf .entry)) (lent (now (table .entry)) (now (strips .entry))) (lent (now (table .exit)) (now (strips .exit))) ⌝ }
 {
     let from = r.from;
     let to = r.to;
     let f = r.feed;
-    let given = f.arrive(table, &buf[from..to], 0);
+    let given = f.arrive(table, strips, &buf[from..to], 0);
     let feed = given.feed;
     let used = given.used;
     let answer = given.answer;
@@ -138,11 +140,11 @@ fn more(r: Run, buf: &mut [u8]) -> Run
 }
 
 // One turn: a call, and more bytes where it is answered More.
-fn turn(r: Run, table: &mut [u64], buf: &mut [u8]) -> Run
+fn turn(r: Run, table: &mut [u64], strips: &mut [u64], buf: &mut [u8]) -> Run
     requires { ⌜ Within r (now buf) × (r .units < 18446744073709551615) ⌝ }
-    ensures { λ q. ⌜ Turned 1 r q (now (buf .entry)) (now (table .entry)) (now (buf .exit)) (now (table .exit)) ⌝ }
+    ensures { λ q. ⌜ Turned 1 r q (now (buf .entry)) (lent (now (table .entry)) (now (strips .entry))) (now (buf .exit)) (lent (now (table .exit)) (now (strips .exit))) ⌝ }
 {
-    let q = called(r, table, buf);
+    let q = called(r, table, strips, buf);
     if q.answer == 3 {
         return more(q, buf);
     }
@@ -150,9 +152,9 @@ fn turn(r: Run, table: &mut [u64], buf: &mut [u8]) -> Run
 }
 
 // Turns until the run is over, or until there were more of them than any input can ask for.
-fn follow(start: Run, table: &mut [u64], buf: &mut [u8]) -> Run
+fn follow(start: Run, table: &mut [u64], strips: &mut [u64], buf: &mut [u8]) -> Run
     requires { ⌜ Within start (now buf) × (start .units ≡ 0) × (start .over ≡ false) ⌝ }
-    ensures { λ q. ⌜ Turned 9223372036854775808 start q (now (buf .entry)) (now (table .entry)) (now (buf .exit)) (now (table .exit)) ⌝ }
+    ensures { λ q. ⌜ Turned 9223372036854775808 start q (now (buf .entry)) (lent (now (table .entry)) (now (strips .entry))) (now (buf .exit)) (lent (now (table .exit)) (now (strips .exit))) ⌝ }
 {
     let mut r = start;
     let mut turns: u64 = 9223372036854775808;
@@ -160,20 +162,20 @@ fn follow(start: Run, table: &mut [u64], buf: &mut [u8]) -> Run
         if r.over {
             return r;
         }
-        r = turn(r, table, buf);
+        r = turn(r, table, strips, buf);
         turns -= 1;
     }
     r
 }
 
 // Turns with no more bytes, until the run is over.
-fn drain(start: Run, table: &mut [u64], buf: &[u8]) -> Run
+fn drain(start: Run, table: &mut [u64], strips: &mut [u64], buf: &[u8]) -> Run
     requires { ⌜ Within start (now buf) × (start .units ≤ 9223372036854775808) ⌝ }
-    ensures { λ q. ⌜ Drained start q (now (buf .entry)) (now (table .entry)) (now (table .exit)) ⌝ }
+    ensures { λ q. ⌜ Drained start q (now (buf .entry)) (lent (now (table .entry)) (now (strips .entry))) (lent (now (table .exit)) (now (strips .exit))) ⌝ }
 {
     let mut r = start;
     while !r.over {
-        r = called(r, table, buf);
+        r = called(r, table, strips, buf);
     }
     r
 }
@@ -341,9 +343,9 @@ fn render(out: &mut [u8], table: &[u64], answer: u64, units: u64) -> usize
     put_end(out, b, answer, units)
 }
 
-// The run over standard input with 128 slots, into a buffer of what it prints: how many bytes that has.
-fn program(table: &mut [u64], buf: &mut [u8], out: &mut [u8]) -> usize
-    requires { ⌜ (now table ≡ replicate tableWords 0) × (length (now buf) ≡ bufferSize) × (length (now out) ≡ textRoom) ⌝ }
+// The run over standard input with 128 slots of each table, into a buffer of what it prints: how many bytes that has.
+fn program(table: &mut [u64], strips: &mut [u64], buf: &mut [u8], out: &mut [u8]) -> usize
+    requires { ⌜ (now table ≡ replicate tableWords 0) × (now strips ≡ replicate stripWords 0) × (length (now buf) ≡ bufferSize) × (length (now out) ≡ textRoom) ⌝ }
     ensures { λ r. ⌜ Wrote (now (out .exit)) r ⌝ }
 {
     let feed = connected();
@@ -355,17 +357,18 @@ fn program(table: &mut [u64], buf: &mut [u8], out: &mut [u8]) -> usize
         to: 0,
         over: false,
     };
-    let last = follow(start, table, buf);
-    let end = drain(last, table, buf);
+    let last = follow(start, table, strips, buf);
+    let end = drain(last, table, strips, buf);
     render(out, table, end.answer, end.units)
 }
 
 // Runs, and writes what is printed; a message where it cannot be written.
 fn main() {
     let mut table = [0u64; TABLE_WORDS];
+    let mut strips = [0u64; STRIPS_WORDS];
     let mut buf = [0u8; BUFFER_BYTES];
     let mut out = [0u8; TEXT_BYTES];
-    let n = program(&mut table, &mut buf, &mut out);
+    let n = program(&mut table, &mut strips, &mut buf, &mut out);
     let written = io::write_all(1, &out[..n]);
     if !written {
         io::write_all(2, b"mmdh: cannot write to standard output\n");

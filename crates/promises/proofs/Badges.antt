@@ -17,12 +17,12 @@ use Rattle.feed.specs.declared.Phase.the-variants.{Idle, WaitKey, WaitLogon, Re
 use Rattle.feed.specs.declared.Kind.{Kind}
 use Rattle.feed.specs.declared.Kind.the-variants.{Session, Market}
 use Rattle.feed.specs.declared.Session.the-variants.{SendKey, Logon, Logout, Refresh, Complete, Request}
-use Rattle.feed.specs.declared.Datum.the-variants.{Book, Other}
+use Rattle.feed.specs.declared.Datum.the-variants.{Book, Strip, Other}
 use Rattle.feed.specs.declared.Status.{Status}
 use Rattle.feed.specs.declared.Status.the-variants.{Opens, Refills, Stays, Closes, Unlisted}
 use Rattle.feed.specs.declared.Feed.{Feed}
 use Rattle.feed.specs.declared.Given.{Given}
-use Rattle.promises.specs.Runs.{start, run, History, noHistory, noteStatus, noteTaken, history, green}
+use Rattle.promises.specs.Runs.{Sizes, start, run, History, noHistory, noteStatus, noteTaken, history, green}
 use Rattle.promises.proofs.Steps.{Any, any, Keeps, on-run}
 
 -- a phase is known by its number
@@ -87,6 +87,7 @@ after-message (Session Complete) time m internal s h a g =
     (q .0, refl, q .2)
 after-message (Session Request) time m internal s h a g = absurd (true≢false (sym a))
 after-message (Market Book) time m internal s h a g = g
+after-message (Market Strip) time m internal s h a g = g
 after-message (Market Other) time m internal s h a g = g
 
 -- neither a message nor its numbers change the limit, nor the numbers the phase
@@ -178,7 +179,7 @@ new-limit limit = rw new-given (given-limit limit (listedLimit limit) refl)
 pub new-feed : (limit : ℕ) → newGiven limit .feed ≡ newFeed (newGiven limit .feed .limit)
 new-feed limit = rw new-given (given-new limit (listedLimit limit))
 
-pub inv-start : (limit n : ℕ) → Inv (start limit n .feed .limit) (start limit n) noHistory
+pub inv-start : (limit : ℕ) (n : Sizes) → Inv (start limit n .feed .limit) (start limit n) noHistory
 inv-start limit n =
     let e = new-feed limit in
     record {
@@ -188,7 +189,7 @@ inv-start limit n =
     }
 
 -- DEMAND 3, the badge
-pub badge-green : (limit n : ℕ) (es : List Event) (time : ℕ)
+pub badge-green : (limit : ℕ) (n : Sizes) (es : List Event) (time : ℕ)
     → eqb (badgeNo (badgeOf (run (start limit n) es .feed) time)) 1 ≡ green (history (start limit n) es) (start limit n .feed .limit) time
 badge-green limit n es time =
     green-of (start limit n .feed .limit) (run (start limit n) es) (history (start limit n) es) time (new-limit limit)

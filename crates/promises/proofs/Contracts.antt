@@ -1,8 +1,9 @@
 -- The contracts of the public operations as the prover has them: they ask nothing, and any two outcomes that one of them allows are the same.
 -- To weaken a contract, or to leave it out, breaks one of these. Assumes nothing.
 use mathlib.Core.Path.{_≡_, sym, ap, _∙_}
+use mathlib.Core.List.{[]}
 use denote.Ref.{now}
-use Rattle.feed.specs.Steps.{Outcome}
+use Rattle.feed.specs.Steps.{Outcome, lent}
 use Rattle.feed.proofs.Feed.new.Reads as new
 use Rattle.feed.proofs.Feed.connect.Reads as connect
 use Rattle.feed.proofs.Feed.arrive.Reads as arrive
@@ -11,7 +12,7 @@ use Rattle.feed.proofs.Feed.badge.Reads as badge
 use Rattle.feed.proofs.Feed.why.Reads as why
 use Rattle.books.proofs.read_row.Reads as read-row
 use Rattle.books.proofs.read_side.Reads as read-side
-use Rattle.promises.specs.Runs.{zeroed}
+use Rattle.strips.proofs.read_strip.Reads as read-strip
 
 -- nothing is asked of who calls
 pub new-asks : (κs : _) (a : _) → new.Asked κs a
@@ -38,18 +39,23 @@ read-row-asks κs a = tt
 pub read-side-asks : (κs : _) (a : _) → read-side.Asked κs a
 read-side-asks κs a = tt
 
+pub read-strip-asks : (κs : _) (a : _) → read-strip.Asked κs a
+read-strip-asks κs a = tt
+
 -- two outcomes are one: what is handed back, and where a table is lent every word of it
 pub new-one : (κs : _) (a : _) (r r′ : _) (x x′ : _) → new.Learnt κs a r x → new.Learnt κs a r′ x′ → r ≡ r′
 new-one κs a r r′ x x′ p q = p ∙ sym q
 
 pub connect-one : (κs : _) (a : _) (r r′ : _) (x x′ : _) → connect.Learnt κs a r x → connect.Learnt κs a r′ x′ → r ≡ r′
-connect-one κs a r r′ x x′ p q = ap (λ (o : Outcome). o .given) (p (zeroed 0) ∙ sym (q (zeroed 0)))
+connect-one κs a r r′ x x′ p q = ap (λ (o : Outcome). o .given) (p (lent [] []) ∙ sym (q (lent [] [])))
 
-pub arrive-one : (κs : _) (a : _) (r r′ : _) (x x′ : _) → arrive.Learnt κs a r x → arrive.Learnt κs a r′ x′ → (r ≡ r′) × (now (x .1 .0) ≡ now (x′ .1 .0))
-arrive-one κs a r r′ x x′ p q = (ap (λ (o : Outcome). o .given) (p ∙ sym q), ap (λ (o : Outcome). o .tables .books) (p ∙ sym q))
+pub arrive-one : (κs : _) (a : _) (r r′ : _) (x x′ : _) → arrive.Learnt κs a r x → arrive.Learnt κs a r′ x′
+    → (r ≡ r′) × (now (x .1 .0) ≡ now (x′ .1 .0)) × (now (x .2 .0) ≡ now (x′ .2 .0))
+arrive-one κs a r r′ x x′ p q = (ap (λ (o : Outcome). o .given) (p ∙ sym q), ap (λ (o : Outcome). o .tables .books) (p ∙ sym q), ap (λ (o : Outcome). o .tables .strips) (p ∙ sym q))
 
-pub arrive-cut-one : (κs : _) (a : _) (r r′ : _) (x x′ : _) → arrive-cut.Learnt κs a r x → arrive-cut.Learnt κs a r′ x′ → (r ≡ r′) × (now (x .1 .0) ≡ now (x′ .1 .0))
-arrive-cut-one κs a r r′ x x′ p q = (ap (λ (o : Outcome). o .given) (p ∙ sym q), ap (λ (o : Outcome). o .tables .books) (p ∙ sym q))
+pub arrive-cut-one : (κs : _) (a : _) (r r′ : _) (x x′ : _) → arrive-cut.Learnt κs a r x → arrive-cut.Learnt κs a r′ x′
+    → (r ≡ r′) × (now (x .1 .0) ≡ now (x′ .1 .0)) × (now (x .2 .0) ≡ now (x′ .2 .0))
+arrive-cut-one κs a r r′ x x′ p q = (ap (λ (o : Outcome). o .given) (p ∙ sym q), ap (λ (o : Outcome). o .tables .books) (p ∙ sym q), ap (λ (o : Outcome). o .tables .strips) (p ∙ sym q))
 
 pub badge-one : (κs : _) (a : _) (r r′ : _) (x x′ : _) → badge.Learnt κs a r x → badge.Learnt κs a r′ x′ → r ≡ r′
 badge-one κs a r r′ x x′ p q = p ∙ sym q
@@ -62,3 +68,6 @@ read-row-one κs a r r′ x x′ p q = p ∙ sym q
 
 pub read-side-one : (κs : _) (a : _) (r r′ : _) (x x′ : _) → read-side.Learnt κs a r x → read-side.Learnt κs a r′ x′ → r ≡ r′
 read-side-one κs a r r′ x x′ p q = p ∙ sym q
+
+pub read-strip-one : (κs : _) (a : _) (r r′ : _) (x x′ : _) → read-strip.Learnt κs a r x → read-strip.Learnt κs a r′ x′ → r ≡ r′
+read-strip-one κs a r r′ x x′ p q = p ∙ sym q

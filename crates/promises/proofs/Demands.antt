@@ -8,9 +8,11 @@ use mathlib.Core.Option.{Option, some}
 use lib.Dec.{T, leb, eqb}
 use borrow.Author.Tests.{not-false, eqb-true, leb-true}
 use Rattle.ground.specs.Choice.{oneOf, first, all}
-use Rattle.ground.proofs.Bools.{both, join, no-second, split, is-T}
+use Rattle.ground.proofs.Bools.{both, join, split, is-T}
 use Rattle.ground.proofs.Choices.{first-may, first-skips}
 use Rattle.slots.specs.Layout.{orAsItWas, unsoundAt}
+use Rattle.slots.proofs.Steps as steps
+use Rattle.slots.proofs.Values as values
 use Rattle.slots.specs.declared.Slot.the-variants.{Held}
 use Rattle.wire.specs.Codes.{securityCode, listedCode}
 use Rattle.ladder.specs.Message.{listedSide, listedRank, listedBook}
@@ -23,11 +25,24 @@ use Rattle.ladder.specs.Walk.{Book, emptyBook, bookAfter}
 use Rattle.ladder.specs.declared.Way.the-variants.{Bid, Offer}
 use Rattle.books.specs.Reading.{readAnswer, readRow}
 use Rattle.books.specs.declared.RowRead.{RowRead}
-use Rattle.feed.specs.Messages.{kind, onMarket, book, listed as listedOf}
+use Rattle.strips.specs.Table as strip
+use Rattle.strips.specs.Table.{strips, stripsAfter}
+use Rattle.strips.specs.Words.{emptyStrip, stripAfter}
+use Rattle.strips.specs.Reading as reading
+use Rattle.strips.specs.Reading.{readStrip}
+use Rattle.strips.specs.declared.Strip.{Strip as StripOf}
+use Rattle.strips.specs.declared.StripRead.{StripRead}
+use Rattle.strips.proofs.Lawful.{lawful}
+use Rattle.strips.proofs.Keeps.{step-fits, step-modest}
+use Rattle.feed.specs.Messages.{kind, onMarket, tabled, listed as listedOf}
 use Rattle.feed.specs.Feeds.{listedLimit, newFeed, newGiven}
-use Rattle.feed.specs.Events.{State, Event, News, Message, timeOf, onMessage}
-use Rattle.feed.specs.Answers.{number, arrives, lacksNeed, isMore, isNext, lineTests, tableTests, tests, answerTo, reply, ofBook}
+use Rattle.feed.specs.Events.{Tables, State, Event, News, Message, timeOf, onMessage}
+use Rattle.feed.specs.Answers.{number, arrives, lacksNeed, isMore, isNext, lineTests, tableTests, tests, answerTo, reply, unsoundFor, noSlotFor, misfitsFor, passed}
 use Rattle.feed.specs.Steps.{tablesAfter, does, taken, act, accepted, handed, outcome}
+use Rattle.feed.specs.declared.Kind.{Kind}
+use Rattle.feed.specs.declared.Kind.the-variants.{Session, Market}
+use Rattle.feed.specs.declared.Datum.{Datum}
+use Rattle.feed.specs.declared.Datum.the-variants.{Book as BookMessage, Strip, Other}
 use Rattle.feed.specs.declared.Answer.{Answer}
 use Rattle.feed.specs.declared.Answer.the-variants.{Keep, Lose, Spoil, Skip, Take}
 use Rattle.feed.proofs.Laws.{numbered}
@@ -42,6 +57,7 @@ use Rattle.promises.proofs.Steps.{isNot, Fine, fine}
 use Rattle.promises.proofs.Badges.{badge-green}
 use Rattle.promises.proofs.Replays.{table-replayed}
 use Rattle.promises.proofs.Soundness.{all-sound, book-replayed}
+use Rattle.promises.proofs.Strips.{accepts, strips-sound, strip-replayed}
 
 -- DEMAND 1
 pub listed : D.Listed
@@ -62,6 +78,14 @@ readListed code side rank t =
   where
     answers : T (oneOf (readAnswer code side rank t) (15 ∷ 4 ∷ 18 ∷ 0 ∷ []))
     answers = unfold readAnswer all oneOf in first-may (λ n. oneOf n (15 ∷ 4 ∷ 18 ∷ 0 ∷ [])) _ 0 tt tt
+
+pub stripListed : D.StripListed
+unfolding readStrip
+stripListed code t =
+    split (λ (r : StripRead). T (oneOf (r .answer) (15 ∷ 4 ∷ 18 ∷ 0 ∷ []))) (eqb (reading.readAnswer code t) 0) _ _ (λ e. unfold oneOf in tt) (λ e. answers)
+  where
+    answers : T (oneOf (reading.readAnswer code t) (15 ∷ 4 ∷ 18 ∷ 0 ∷ []))
+    answers = unfold reading.readAnswer all oneOf in first-may (λ n. oneOf n (15 ∷ 4 ∷ 18 ∷ 0 ∷ [])) _ 0 tt tt
 
 -- a list of rows tells what the first that passes says, and nothing else
 tells : (ts : List (Bool × Answer)) (n : ℕ) → number (first ts (Take 0)) ≡ n → D.Tells ts n
@@ -113,7 +137,7 @@ zero-take (Spoil n) p e = absurd (subst (λ (k : ℕ). T (oneOf k spoiling)) e p
 zero-take (Skip n) p e = absurd (subst (λ (k : ℕ). T (oneOf k (1 ∷ []))) e p)
 zero-take (Take n) p e = ap Take e
 
-module _ (s : State) (e : Event) (m : List ℕ) (t : D.Taken s e m) where
+module _ (d : Datum) (s : State) (e : Event) (m : List ℕ) (t : D.TakenAs d s e m) where
   reply-zero : reply s e ≡ Take 0
   unfolding outcome handed
   reply-zero = zero-take (reply s e) (reply-proper s e) (t .zero)
@@ -121,29 +145,46 @@ module _ (s : State) (e : Event) (m : List ℕ) (t : D.Taken s e m) where
   known : Fine s (timeOf e) (t .seq) (t .internal) m
   known = fine s (timeOf e) (t .seq) (t .internal) m 0 (subst (λ (n : News). answerTo (s .feed) (s .tables) (timeOf e) n ≡ Take 0) (t .brings) reply-zero)
 
-  table-after : after s e .tables .books ≡ booksAfter (timeOf e) m (s .tables .books)
-  unfolding after outcome handed act taken does tablesAfter
-  table-after = rw (reply-zero, t .brings, t .book)
+  tables-after : after s e .tables ≡ tablesAfter d (timeOf e) m (s .tables)
+  unfolding after outcome handed act taken does
+  tables-after = rw (reply-zero, t .brings, t .of)
 
-  of-book : (b : Bool) → ofBook (kind m) b ≡ false → b ≡ false
-  unfolding ofBook onMarket book
-  of-book b h = rw (t .book) at h
+  sound-for : unsoundFor (Market d) m (s .tables) ≡ false
+  sound-for = rw (t .of) at (known .sound)
+
+  room-for : noSlotFor (Market d) m (s .tables) ≡ false
+  room-for = rw (t .of) at (known .room)
+
+  fit-for : misfitsFor (Market d) (timeOf e) m (s .tables) ≡ false
+  fit-for = rw (t .of) at (known .fit)
+
+module _ (s : State) (e : Event) (m : List ℕ) (t : D.Taken s e m) where
+  table-after : after s e .tables .books ≡ booksAfter (timeOf e) m (s .tables .books)
+  unfolding tablesAfter
+  table-after = ap (λ (x : Tables). x .books) (tables-after BookMessage s e m t)
+
+  strips-kept : after s e .tables .strips ≡ s .tables .strips
+  unfolding tablesAfter
+  strips-kept = ap (λ (x : Tables). x .strips) (tables-after BookMessage s e m t)
 
   code-listed : listedBook m ≡ true
-  code-listed = unfold listedOf in (rw (t .book) at (known .fields))
+  code-listed = unfold listedOf in (rw (t .of) at (known BookMessage s e m t .fields))
 
   sound-known : unsound m (s .tables .books) ≡ false
-  sound-known = of-book (unsound m (s .tables .books)) (known .sound)
+  unfolding unsoundFor
+  sound-known = sound-for BookMessage s e m t
 
   held-sound : (k : ℕ) → placeIn (securityCode m) (s .tables .books) ≡ Held k → soundWords (block k (s .tables .books)) ≡ true
   unfolding unsound unsoundAt
   held-sound k h = not-false (soundWords (block k (s .tables .books))) (rw h at sound-known)
 
   room-known : noSlot m (s .tables .books) ≡ false
-  room-known = of-book (noSlot m (s .tables .books)) (known .room)
+  unfolding noSlotFor
+  room-known = room-for BookMessage s e m t
 
   fit-known : misfits (timeOf e) m (s .tables .books) ≡ false
-  fit-known = of-book (misfits (timeOf e) m (s .tables .books)) (known .fit)
+  unfolding misfitsFor
+  fit-known = fit-for BookMessage s e m t
 
 pub whole : D.Whole
 whole s e m t = rw (table-after s e m t) (books-own (timeOf e) m (s .tables .books) (sound-known s e m t) (room-known s e m t) (fit-known s e m t))
@@ -154,7 +195,50 @@ others s e m t = (
   λ c n z. rw (table-after s e m t) (books-other (timeOf e) m (s .tables .books) c n z),
   rw (table-after s e m t) (books-length (timeOf e) m (s .tables .books)),
   rw (table-after s e m t) (books-tail (timeOf e) m (s .tables .books)),
+  strips-kept s e m t,
 )
+
+-- strip messages
+module _ (s : State) (e : Event) (m : List ℕ) (t : D.TakenStrip s e m) where
+  strips-are : after s e .tables .strips ≡ stripsAfter m (s .tables .strips)
+  unfolding tablesAfter
+  strips-are = ap (λ (x : Tables). x .strips) (tables-after Strip s e m t)
+
+  books-kept : after s e .tables .books ≡ s .tables .books
+  unfolding tablesAfter
+  books-kept = ap (λ (x : Tables). x .books) (tables-after Strip s e m t)
+
+  strip-accepts : steps.Accepts strips (strip.stepOf m) (s .tables .strips)
+  unfolding unsoundFor noSlotFor
+  strip-accepts = accepts m (s .tables .strips) (sound-for Strip s e m t) (room-for Strip s e m t)
+
+pub stripWhole : D.StripWhole
+unfolding stripsAfter orAsItWas
+stripWhole s e m t =
+    let own = steps.stepped-own strips (strip.stepOf m) (s .tables .strips) lawful (step-fits m) (step-modest m) (strip-accepts s e m t) in
+    rw (strips-are s e m t) (ap (λ (r : Option StripOf). orAsItWas r emptyStrip) (sym own))
+
+pub stripOthers : D.StripOthers
+unfolding stripsAfter
+stripOthers s e m t =
+    let q = strip.stepOf m in
+    let u : List ℕ = s .tables .strips in (
+      λ j h f. rw (strips-are s e m t) (steps.stepped-slots strips q u lawful j h f),
+      λ c n z. rw (strips-are s e m t) (steps.stepped-other strips q u lawful c n z),
+      rw (strips-are s e m t) (steps.stepped-length strips q u lawful),
+      rw (strips-are s e m t) (steps.stepped-tail strips q u lawful),
+      books-kept s e m t,
+    )
+
+pub stripFits : D.StripFits
+unfolding outcome handed tests lineTests tableTests all onMessage arrives lacksNeed isMore number
+stripFits s e seq internal m b k =
+    let ts : List (Bool × Answer) = tests (s .feed) (s .tables) (timeOf e) (Message seq internal m) in
+    let fit : misfitsFor (kind m) (timeOf e) m (s .tables) ≡ false = unfold misfitsFor in rw k in
+    let goes : passed (kind m) ≡ false = unfold passed onMarket tabled in rw k in (
+      λ q. subst (λ (k : ℕ). T (not (eqb k 16))) q (rw b (first-may (isNot 16) ts (Take 0) (rw fit tt) tt)),
+      λ q. subst (λ (k : ℕ). T (not (eqb k 2))) q (rw b (first-may (isNot 2) ts (Take 0) (rw goes tt) tt)),
+    )
 
 -- a message with no entries
 pub emptied : D.Emptied
@@ -175,14 +259,22 @@ looksEmpty s e m t none side rank a b =
 
 pub emptyFits : D.EmptyFits
 unfolding outcome handed tests lineTests tableTests all onMessage arrives lacksNeed isMore number
-emptyFits s e seq internal m b none =
+emptyFits s e seq internal m b k none =
     let ts : List (Bool × Answer) = tests (s .feed) (s .tables) (timeOf e) (Message seq internal m) in
-    let room : ofBook (kind m) (noSlot m (s .tables .books)) ≡ false = unfold ofBook noSlot in no-second (onMarket book (kind m)) _ (rw none) in
-    let fit : ofBook (kind m) (misfits (timeOf e) m (s .tables .books)) ≡ false =
-    unfold ofBook in no-second (onMarket book (kind m)) _ (no-misfit (timeOf e) m (s .tables .books) none) in (
+    let room : noSlotFor (kind m) m (s .tables) ≡ false = no-slot-for (kind m) k in
+    let fit : misfitsFor (kind m) (timeOf e) m (s .tables) ≡ false = no-misfit-for (kind m) k in (
       λ q. subst (λ (k : ℕ). T (not (eqb k 17))) q (rw b (first-may (isNot 17) ts (Take 0) (rw room tt) tt)),
       λ q. subst (λ (k : ℕ). T (not (eqb k 16))) q (rw b (first-may (isNot 16) ts (Take 0) (rw fit tt) tt)),
     )
+
+  where
+    no-slot-for : (j : Kind) → j ≡ Market BookMessage → noSlotFor j m (s .tables) ≡ false
+    unfolding noSlotFor noSlot
+    no-slot-for j h = rw (h, none)
+
+    no-misfit-for : (j : Kind) → j ≡ Market BookMessage → misfitsFor j (timeOf e) m (s .tables) ≡ false
+    unfolding misfitsFor
+    no-misfit-for j h = rw h (no-misfit (timeOf e) m (s .tables .books) none)
 
 -- DEMAND 3
 pub replayed : D.Replayed
@@ -191,10 +283,18 @@ replayed = table-replayed
 pub bookByBook : D.BookByBook
 bookByBook = book-replayed
 
+pub stripByStrip : D.StripByStrip
+stripByStrip = strip-replayed
+
 pub sound : D.Sound
 sound limit n es h =
     let a = all-sound limit n es h in
     (a, λ c. book-sound-in c (run (start limit n) es .tables .books) a)
+
+pub stripsSound : D.StripsSound
+stripsSound limit n es =
+    let a = strips-sound limit n es in
+    (a, λ c. values.well-in strips lawful c (run (start limit n) es .tables .strips) a .1)
 
 pub once : D.Once
 once limit n es h c =

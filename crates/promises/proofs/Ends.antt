@@ -16,7 +16,7 @@ use Rattle.feed.specs.Feeds.{listedLimit, newGiven}
 use Rattle.feed.specs.Events.{Tables, State, Event, Connect, Arrive, News, Linked, More, Heartbeat, Message, news, timeOf, onMessage}
 use Rattle.feed.specs.Answers.{number, arrives, lacksNeed, isMore, lineTests, tableTests, tests, reply, answerTo}
 use Rattle.feed.specs.Steps.{taken, act, accepted, handed, outcome}
-use Rattle.feed.specs.Program.{bufferSize, tableWords, Stand, follow, connection}
+use Rattle.feed.specs.Program.{bufferSize, tableWords, stripWords, Stand, follow, connection}
 use Rattle.feed.specs.declared.Feed.{Feed}
 use Rattle.feed.specs.declared.Given.{Given}
 use Rattle.feed.specs.declared.Answer.{Answer}
@@ -25,7 +25,7 @@ use Rattle.feed.specs.declared.Link.the-variants.{Fresh}
 use Rattle.feed.proofs.Laws.{used-fits}
 use Rattle.feed.proofs.Following.{used-some}
 use Rattle.promises.specs.Refusals.{answersTo}
-use Rattle.promises.specs.Runs.{start, after, run, endOf}
+use Rattle.promises.specs.Runs.{Sizes, start, after, run, endOf}
 use Rattle.promises.specs.Demands.{handsBytes, Bytes}
 use Rattle.promises.specs.Decisions as C
 use Rattle.promises.proofs.Refused as F
@@ -78,9 +78,13 @@ more-bytes (d ∷ es) e h t = go (handsBytes d) h (λ k. more-bytes es e k t)
     go true h k = k h
     go false h k = absurd h
 
+-- the words that the program lends
+abbrev words : Sizes
+words = record { books = tableWords; strips = stripWords }
+
 -- where a run of the program stands: after some events from the start, last heard at 0
 pub record Stands (es : List Event) (x : State) : Type 0 where
-  pub is : x ≡ endOf 1000 tableWords es
+  pub is : x ≡ endOf 1000 words es
   pub bytes : Bytes es
   pub heard : x .feed .heard ≡ 0
 
@@ -91,7 +95,7 @@ module _ (x : State) (es : List Event) (st : Stands es x) (part : List ℕ) (hp 
   goes-on : Stands (es ++ (e ∷ [])) (after x e)
   unfolding run handsBytes timeOf
   goes-on = record {
-    is = rw (run-append es (e ∷ []) (start 1000 tableWords)) (ap (λ (y : State). after y e) (st .is));
+    is = rw (run-append es (e ∷ []) (start 1000 words)) (ap (λ (y : State). after y e) (st .is));
     bytes = more-bytes es e (st .bytes) hp;
     heard = heard-by (λ (k : ℕ). k ≡ 0) x e (st .heard) refl;
   }
@@ -101,7 +105,7 @@ module _ (x : State) (es : List Event) (st : Stands es x) (part : List ℕ) (hp 
   stops f =
       ending x part 0 f
       (λ t. subst (λ (k : ℕ). T (not (eqb k 10))) t (not-early (x .feed) (x .tables) (news e) (st .heard)))
-      (λ t. never18 1000 tableWords es e (st .bytes) (ap (λ (y : State). outcome y e .given .answer) (sym (st .is)) ∙ t))
+      (λ t. never18 1000 words es e (st .bytes) (ap (λ (y : State). outcome y e .given .answer) (sym (st .is)) ∙ t))
 
 ends : (calls : ℕ) (s : List ℕ) (x : Stand) (es : List Event) → length s < calls → T (bytesOnly s) → Stands es (x .state) → T (oneOf (follow calls s x .answer) last)
 unfolding follow after

@@ -419,7 +419,7 @@ pair : (a b : Bool) → a ≡ true → T b → T (a && b)
 pair true b e t = t
 pair false b e t = absurd (true≢false (sym e))
 
-module _ (limit n : ℕ) where
+module _ (limit : ℕ) (n : Sizes) where
   on-event : (s : State) (h : History) (w : Talk) (e : Event) → S.Inv n s h → Goes s h w → T (fair limit (countIn books n) w e)
       → (accepted (outcome s e .given .answer) ≡ true) × Goes (after s e) (note h e (outcome s e .given .answer)) (saidNews (news e) (timeOf e) w)
   unfolding outcome handed after note fair
@@ -491,7 +491,7 @@ goodMorning limit n es time part rest be bc t f =
           (bound limit n es time part) (new-limit limit) o p q),
     )
   where
-    bound : (limit n : ℕ) (es : List Event) (time : ℕ) (part : List Event) → run (after (run (start limit n) es) (Connect Fresh time)) part .feed .limit ≡ start limit n .feed .limit
+    bound : (limit : ℕ) (n : Sizes) (es : List Event) (time : ℕ) (part : List Event) → run (after (run (start limit n) es) (Connect Fresh time)) part .feed .limit ≡ start limit n .feed .limit
     bound limit n es time part =
         let l : ℕ = start limit n .feed .limit in
         ap (λ (x : State). x .feed .limit) (sym (run-append es (Connect Fresh time ∷ part) (start limit n)))

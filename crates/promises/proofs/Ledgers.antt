@@ -28,7 +28,7 @@ use Rattle.feed.specs.declared.Status.the-variants.{Opens, Refills, Stays, Clos
 use Rattle.feed.specs.declared.Feed.{Feed}
 use Rattle.feed.proofs.Laws.{numbered}
 use Rattle.promises.specs.Refusals.{keeping, losing, spoiling}
-use Rattle.promises.specs.Runs.{start, after, run, trace, History, noHistory, note, recall, history}
+use Rattle.promises.specs.Runs.{Sizes, start, after, run, trace, History, noHistory, note, recall, history}
 use Rattle.promises.specs.Ledger.{Ledger, noLedger, sees, meets, emptied, enters, spoils, takes, isLive, enterStatus, enterTaken, enterAccepted, enterCame, enter, keep, ledger, upTo, rising, lastOf}
 use Rattle.promises.proofs.Refused.{proper, reply-proper}
 use Rattle.promises.proofs.Steps.{Fine, fine, Any, any-news, on-step}
@@ -237,7 +237,7 @@ met-more s f l k seq e same c z i n =
     }
 
 -- what holds besides, by the proofs of the badge and of the table
-pub record Known (limit n : ℕ) (s : State) (h : History) : Type 0 where
+pub record Known (limit : ℕ) (n : Sizes) (s : State) (h : History) : Type 0 where
   pub badge : B.Inv limit s h
   pub table : R.Inv n s h
 
@@ -265,7 +265,7 @@ early : (s : State) (time seq internal : ℕ) (m : List ℕ) → deaf (s .feed .
 unfolding isEarly tests lineTests tableTests all onMessage arrives lacksNeed isMore
 early s time seq internal m d = first-may isEarly (tests (s .feed) (s .tables) time (Message seq internal m)) (Take 0) (rw d tt) tt
 
-module _ (limit n : ℕ) (s : State) (h : History) (l : Ledger) (b : Known limit n s h) (i : Inv s l) (time : ℕ) where
+module _ (limit : ℕ) (n : Sizes) (s : State) (h : History) (l : Ledger) (b : Known limit n s h) (i : Inv s l) (time : ℕ) where
   kept : (x : News) (k : ℕ) → answerTo (s .feed) (s .tables) time x ≡ Keep k → Inv s (enterCame k x l)
   unfolding enterCame isEarly
   kept (Linked link) k e = i
@@ -367,7 +367,7 @@ module _ (limit n : ℕ) (s : State) (h : History) (l : Ledger) (b : Known limit
       each-has (λ (k : ℕ). answerTo (s .feed) (s .tables) time x ≡ Take k → Inv (act (Take k) time x s) (enter h l x k)) (2 ∷ 0 ∷ [])
       (took 2 x refl, (took 0 x refl, tt)) k q e
 
-module _ (limit n : ℕ) where
+module _ (limit : ℕ) (n : Sizes) where
   pub known-step : (s : State) (h : History) (e : Event) → Known limit n s h → Known limit n (after s e) (note h e (outcome s e .given .answer))
   known-step s h e b = record {
     badge = on-step Any (B.Inv limit) (B.keeps limit) s h e (any-news (news e)) (b .badge);
@@ -385,12 +385,12 @@ module _ (limit n : ℕ) where
   on-run (e ∷ es) s h l b i =
       on-run es (after s e) (note h e (outcome s e .given .answer)) (enter h l (news e) (outcome s e .given .answer)) (known-step s h e b) (one-step s h l e b i)
 
-new-ledger : (limit n : ℕ) → Inv (start limit n) noLedger
+new-ledger : (limit : ℕ) (n : Sizes) → Inv (start limit n) noLedger
 unfolding upTo rising lastOf
 new-ledger limit n = rw (new-feed limit) (record { next = refl; gapless = refl; heeded = λ d. refl; numbered = record { last = refl; rises = tt; whole = refl }; empty = λ e. refl })
 
 -- of every run
-pub on-ledger : (limit n : ℕ) (es : List Event)
+pub on-ledger : (limit : ℕ) (n : Sizes) (es : List Event)
     → Known (start limit n .feed .limit) n (run (start limit n) es) (history (start limit n) es) × Inv (run (start limit n) es) (ledger (start limit n) es)
 on-ledger limit n es =
     on-run (start limit n .feed .limit) n es (start limit n) noHistory noLedger

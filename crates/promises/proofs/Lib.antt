@@ -5,6 +5,7 @@ pub mod Steps
 pub mod Badges
 pub mod Replays
 pub mod Soundness
+pub mod Strips
 pub mod Demands
 pub mod Morning
 pub mod Ledgers

@@ -9,49 +9,56 @@ use Rattle.ground.specs.Choice.{oneOf, all}
 use Rattle.wire.specs.Units.{unitOf}
 use Rattle.wire.specs.declared.Unit.{Unit}
 use Rattle.wire.specs.declared.Unit.the-variants as unit
-use Rattle.ground.proofs.Bools.{both, split, no-second, two}
+use Rattle.ground.proofs.Bools.{both, split, two}
 use Rattle.ground.proofs.Choices.{first-may, each-has}
 use Rattle.books.specs.Table.{unsound}
+use Rattle.slots.proofs.Values as values
+use Rattle.strips.specs.Table as strip
+use Rattle.strips.specs.Table.{strips}
 use Rattle.books.proofs.Frames.{AllSound, never-unsound}
 use Rattle.wire.specs.Codes.{securityCode}
-use Rattle.feed.specs.Messages.{kind, onMarket, book, statusOf, logonStatus}
-use Rattle.feed.specs.Events.{State, Event, Connect, Arrive, Cut, News, Linked, More, Heartbeat, Message, news, cutFrom, timeOf, onMessage}
-use Rattle.feed.specs.Answers.{number, arrives, lacksNeed, isMore, ofBook, lineTests, tableTests, tests, answerTo}
+use Rattle.feed.specs.Messages.{kind, statusOf, logonStatus}
+use Rattle.feed.specs.Events.{Tables, State, Event, Connect, Arrive, Cut, News, Linked, More, Heartbeat, Message, news, cutFrom, timeOf, onMessage}
+use Rattle.feed.specs.Answers.{number, arrives, lacksNeed, isMore, unsoundFor, lineTests, tableTests, tests, answerTo}
 use Rattle.feed.specs.declared.Answer.the-variants.{Take}
 use Rattle.feed.specs.Feeds.{badgeNo, badgeOf}
 use Rattle.feed.specs.Steps.{accepted, handed, outcome}
 use Rattle.feed.specs.declared.Kind.{Kind}
 use Rattle.feed.specs.declared.Kind.the-variants.{Session, Market}
 use Rattle.feed.specs.declared.Session.the-variants.{SendKey, Logon, Logout, Refresh, Complete, Request}
-use Rattle.feed.specs.declared.Datum.the-variants.{Book, Other}
+use Rattle.feed.specs.declared.Datum.the-variants.{Book, Strip, Other}
 use Rattle.feed.specs.declared.Status.{Status}
 use Rattle.feed.specs.declared.Status.the-variants.{Opens, Refills, Stays, Closes, Unlisted}
-use Rattle.promises.specs.Runs.{start, after, run, trace, History, noHistory, noteHeard, noteOver, noteStatus, noteTaken, noteNews, note, recall, history, green}
+use Rattle.promises.specs.Runs.{Sizes, start, after, run, trace, History, noHistory, noteHeard, noteOver, noteStatus, noteTaken, noteNews, note, recall, history, green}
 use Rattle.promises.specs.Demands as D
 use Rattle.promises.specs.Refusals.{ending}
 use Rattle.promises.specs.Demands.{isConnect, connects, letsIn, isLogon, logsOn}
 use Rattle.promises.proofs.Steps.{isNot}
 use Rattle.promises.proofs.Badges.{badge-green}
 use Rattle.promises.proofs.Soundness.{all-sound}
+use Rattle.promises.proofs.Strips.{strips-sound}
 
--- 18 never comes where every slot is sound
-pub sound-row : (m t : List ℕ) (k : Kind) → AllSound t → ofBook k (unsound m t) ≡ false
-unfolding ofBook unsound
-sound-row m t k a = no-second (onMarket book k) _ (never-unsound (securityCode m) t a)
+-- 18 never comes where every slot of both tables is sound
+pub sound-row : (m : List ℕ) (x : Tables) (k : Kind) → AllSound (x .books) → values.AllSound strips (x .strips) → unsoundFor k m x ≡ false
+unfolding unsoundFor unsound strip.unsound
+sound-row m x (Session s) a b = refl
+sound-row m x (Market Book) a b = never-unsound (securityCode m) (x .books) a
+sound-row m x (Market Strip) a b = values.never-unsound strips (x .strips) b (securityCode m)
+sound-row m x (Market Other) a b = refl
 
-no-eighteen : (s : State) (time : ℕ) → AllSound (s .tables .books) → (n : News) → T (isNot 18 (answerTo (s .feed) (s .tables) time n))
+no-eighteen : (s : State) (time : ℕ) → AllSound (s .tables .books) → values.AllSound strips (s .tables .strips) → (n : News) → T (isNot 18 (answerTo (s .feed) (s .tables) time n))
 unfolding tests lineTests tableTests all onMessage arrives lacksNeed isMore number
-no-eighteen s time a (Linked link) = first-may (isNot 18) (tests (s .feed) (s .tables) time (Linked link)) (Take 0) tt tt
-no-eighteen s time a More = first-may (isNot 18) (tests (s .feed) (s .tables) time More) (Take 0) tt tt
-no-eighteen s time a Heartbeat = first-may (isNot 18) (tests (s .feed) (s .tables) time Heartbeat) (Take 0) tt tt
-no-eighteen s time a (Message seq internal m) =
-    first-may (isNot 18) (tests (s .feed) (s .tables) time (Message seq internal m)) (Take 0) (rw (sound-row m (s .tables .books) (kind m) a) tt) tt
+no-eighteen s time a b (Linked link) = first-may (isNot 18) (tests (s .feed) (s .tables) time (Linked link)) (Take 0) tt tt
+no-eighteen s time a b More = first-may (isNot 18) (tests (s .feed) (s .tables) time More) (Take 0) tt tt
+no-eighteen s time a b Heartbeat = first-may (isNot 18) (tests (s .feed) (s .tables) time Heartbeat) (Take 0) tt tt
+no-eighteen s time a b (Message seq internal m) =
+    first-may (isNot 18) (tests (s .feed) (s .tables) time (Message seq internal m)) (Take 0) (rw (sound-row m (s .tables) (kind m) a b) tt) tt
 
 pub never18 : D.Never18
 unfolding outcome handed
 never18 limit n es e h q =
     let s : State = run (start limit n) es in
-    subst (λ (k : ℕ). T (not (eqb k 18))) q (no-eighteen s (timeOf e) (all-sound limit n es h) (news e))
+    subst (λ (k : ℕ). T (not (eqb k 18))) q (no-eighteen s (timeOf e) (all-sound limit n es h) (strips-sound limit n es) (news e))
 
 -- a run in two parts
 pub run-append : (es fs : List Event) (s : State) → run s (es ++ fs) ≡ run (run s es) fs
@@ -100,6 +107,7 @@ over-taken (Session Refresh) time m h p = p
 over-taken (Session Complete) time m h p = p
 over-taken (Session Request) time m h p = p
 over-taken (Market Book) time m h p = p
+over-taken (Market Strip) time m h p = p
 over-taken (Market Other) time m h p = p
 
 over-cut : (s : List ℕ) (time : ℕ) (h : History) → Over h → (u : Unit) → Over (noteNews (cutFrom s u) time h)
@@ -152,6 +160,7 @@ dark-taken (Session Refresh) time m h e p = p
 dark-taken (Session Complete) time m h e p = p
 dark-taken (Session Request) time m h e p = p
 dark-taken (Market Book) time m h e p = p
+dark-taken (Market Strip) time m h e p = p
 dark-taken (Market Other) time m h e p = p
 
 dark-news : (n : News) (time : ℕ) (h : History) → onMessage (λ seq internal m. isLogon (kind m) m) n ≡ false → Dark h → Dark (noteNews n time h)
@@ -185,7 +194,7 @@ unfolding Over Dark
 over-dark h p = rw p (and-false (h .up))
 
 -- the badge after a run in two parts is dark where its history is
-dark-badge : (limit n : ℕ) (es : List Event) (e : Event) (fs : List Event) (time : ℕ)
+dark-badge : (limit : ℕ) (n : Sizes) (es : List Event) (e : Event) (fs : List Event) (time : ℕ)
     → Dark (recall (note (history (start limit n) es) e (outcome (run (start limit n) es) e .given .answer)) (trace (after (run (start limit n) es) e) fs))
     → eqb (badgeNo (badgeOf (run (start limit n) (es ++ (e ∷ fs)) .feed) time)) 1 ≡ false
 unfolding recall trace

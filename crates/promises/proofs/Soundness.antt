@@ -16,19 +16,19 @@ use Rattle.slots.proofs.Ours.{ours-start, clear-ours}
 use Rattle.ladder.specs.Walk as Walk
 use Rattle.ladder.specs.Words.{sound}
 use Rattle.ladder.proofs.Orders.{all-take, all-drop}
-use Rattle.books.specs.Table.{books, bookIn, unsound, noSlot, misfits}
+use Rattle.books.specs.Table.{books, bookIn}
 use Rattle.books.proofs.Frames.{AllSound, books-sound, books-each, cleared-sound, cleared-empty}
-use Rattle.feed.specs.Messages.{kind, onMarket, book, statusOf, logonStatus}
+use Rattle.feed.specs.Messages.{kind, statusOf, logonStatus}
 use Rattle.feed.specs.Events.{State, Event, Connect, Arrive, Cut, Message, news, cutFrom}
-use Rattle.feed.specs.Answers.{ofBook}
+use Rattle.feed.specs.Answers.{unsoundFor, noSlotFor, misfitsFor}
 use Rattle.feed.specs.Steps.{cleared, loggedOn, tablesAfter, does, taken}
 use Rattle.feed.specs.declared.Kind.{Kind}
 use Rattle.feed.specs.declared.Kind.the-variants.{Session, Market}
 use Rattle.feed.specs.declared.Session.the-variants.{SendKey, Logon, Logout, Refresh, Complete, Request}
-use Rattle.feed.specs.declared.Datum.the-variants.{Book, Other}
+use Rattle.feed.specs.declared.Datum.the-variants.{Book, Strip, Other}
 use Rattle.feed.specs.declared.Status.{Status}
 use Rattle.feed.specs.declared.Status.the-variants.{Opens, Refills, Stays, Closes, Unlisted}
-use Rattle.promises.specs.Runs.{start, run, Deed, Took, History, noHistory, noteLogon, noteStatus, noteTaken, history, performOn, replayOn}
+use Rattle.promises.specs.Runs.{Sizes, start, run, Deed, Took, History, noHistory, noteLogon, noteStatus, noteTaken, history, performOn, replayOn}
 use Rattle.promises.specs.Demands.{handsBytes, Bytes}
 use Rattle.promises.proofs.Steps.{OfNews, Each, Keeps, on-run}
 use Rattle.promises.proofs.Replays as R
@@ -42,13 +42,13 @@ unfolding replayOn
 replayOn-snoc c [] d b = refl
 replayOn-snoc c (e ∷ ds) d b = replayOn-snoc c ds d (performOn c e b)
 
-pub record Inv (n : ℕ) (s : State) (h : History) : Type 0 where
+pub record Inv (n : Sizes) (s : State) (h : History) : Type 0 where
   pub base : R.Inv n s h
   pub sounds : AllSound (s .tables .books)
   pub booked : Booked (s .tables .books) (h .deeds)
 
 -- a clearing, done or not
-opened : (n : ℕ) (s : State) (h : History) (refresh : Bool) → Inv n s h → (b : Bool)
+opened : (n : Sizes) (s : State) (h : History) (refresh : Bool) → Inv n s h → (b : Bool)
     → AllSound (cond b (cleared s) s .tables .books) × Booked (cond b (cleared s) s .tables .books) (noteLogon refresh b h .deeds)
 unfolding replayOn
 opened n s h refresh i true = (cleared-sound (s .tables .books), λ c z. cleared-empty c (s .tables .books) z)
@@ -57,7 +57,7 @@ opened n s h refresh i false = (i .sounds, i .booked)
 abbrev Kept : State → History → Type 0
 Kept s h = AllSound (s .tables .books) × Booked (s .tables .books) (h .deeds)
 
-after-status : (n : ℕ) (st : Status) (s : State) (h : History) → Inv n s h → Kept (loggedOn st s) (noteStatus st h)
+after-status : (n : Sizes) (st : Status) (s : State) (h : History) → Inv n s h → Kept (loggedOn st s) (noteStatus st h)
 unfolding loggedOn noteStatus
 after-status n Opens s h i =
     subst (λ (b : Bool). AllSound (cond (s .feed .fresh) (cleared s) s .tables .books) × Booked (cond (s .feed .fresh) (cleared s) s .tables .books) (noteLogon false b h .deeds)) (i .base .fresh)
@@ -67,9 +67,9 @@ after-status n Stays s h i = (i .sounds, i .booked)
 after-status n Closes s h i = (i .sounds, i .booked)
 after-status n Unlisted s h i = (i .sounds, i .booked)
 
-after-message : (n : ℕ) (k : Kind) (time : ℕ) (m : List ℕ) (s : State) (h : History) → T (bytesOnly m) → ofBook k (unsound m (s .tables .books)) ≡ false
-    → ofBook k (noSlot m (s .tables .books)) ≡ false → ofBook k (misfits time m (s .tables .books)) ≡ false → Inv n s h → Kept (does k time m s) (noteTaken k time m h)
-unfolding does noteTaken tablesAfter ofBook onMarket book performOn
+after-message : (n : Sizes) (k : Kind) (time : ℕ) (m : List ℕ) (s : State) (h : History) → T (bytesOnly m) → unsoundFor k m (s .tables) ≡ false
+    → noSlotFor k m (s .tables) ≡ false → misfitsFor k time m (s .tables) ≡ false → Inv n s h → Kept (does k time m s) (noteTaken k time m h)
+unfolding does noteTaken tablesAfter unsoundFor noSlotFor misfitsFor performOn
 after-message n (Session SendKey) time m s h b x y z i = (i .sounds, i .booked)
 after-message n (Session Logon) time m s h b x y z i = after-status n (statusOf (logonStatus m)) s h i
 after-message n (Session Logout) time m s h b x y z i = (i .sounds, i .booked)
@@ -78,14 +78,15 @@ after-message n (Session Complete) time m s h b x y z i = (i .sounds, i .booked)
 after-message n (Session Request) time m s h b x y z i = (i .sounds, i .booked)
 after-message n (Market Book) time m s h b x y z i = (
   books-sound time m (s .tables .books) b (i .sounds),
-  λ c nz. books-each time m (s .tables .books) x y z c nz ∙ ap (performOn c (Took time m)) (i .booked c nz) ∙ sym (replayOn-snoc c (h .deeds) (Took time m) Walk.emptyBook),
+  λ c nz. books-each time m (s .tables .books) x y z c nz ∙ ap (performOn c (Took Book time m)) (i .booked c nz) ∙ sym (replayOn-snoc c (h .deeds) (Took Book time m) Walk.emptyBook),
 )
+after-message n (Market Strip) time m s h b x y z i = (i .sounds, λ c nz. i .booked c nz ∙ sym (replayOn-snoc c (h .deeds) (Took Strip time m) Walk.emptyBook))
 after-message n (Market Other) time m s h b x y z i = (i .sounds, i .booked)
 
 abbrev pub OfBytes : List ℕ → Type 0
 OfBytes m = T (bytesOnly m)
 
-pub keeps : (n : ℕ) → Keeps OfBytes (Inv n)
+pub keeps : (n : Sizes) → Keeps OfBytes (Inv n)
 unfolding taken
 keeps n =
     let K = R.keeps n in
@@ -123,20 +124,20 @@ bytes-each (e ∷ es) h =
 zeros-cleared : (n : ℕ) → replicate n 0 ≡ clearedIn books (replicate n 0)
 zeros-cleared n = sym (clear-ours books n (replicate n 0) (ours-start books n))
 
-inv-start : (limit n : ℕ) → Inv n (start limit n) noHistory
+inv-start : (limit : ℕ) (n : Sizes) → Inv n (start limit n) noHistory
 unfolding replayOn
 inv-start limit n = record {
   base = R.inv-start limit n;
-  sounds = subst AllSound (sym (zeros-cleared n)) (cleared-sound (replicate n 0));
-  booked = λ c z. subst (λ (t : List ℕ). bookIn c t ≡ Walk.emptyBook) (sym (zeros-cleared n)) (cleared-empty c (replicate n 0) z);
+  sounds = subst AllSound (sym (zeros-cleared (n .books))) (cleared-sound (replicate (n .books) 0));
+  booked = λ c z. subst (λ (t : List ℕ). bookIn c t ≡ Walk.emptyBook) (sym (zeros-cleared (n .books))) (cleared-empty c (replicate (n .books) 0) z);
 }
 
-pub inv-run : (limit n : ℕ) (es : List Event) → Bytes es → Inv n (run (start limit n) es) (history (start limit n) es)
+pub inv-run : (limit : ℕ) (n : Sizes) (es : List Event) → Bytes es → Inv n (run (start limit n) es) (history (start limit n) es)
 inv-run limit n es h = on-run OfBytes (Inv n) (keeps n) es (start limit n) noHistory (bytes-each es h) (inv-start limit n)
 
 -- DEMAND 3, soundness, and the books one by one
-pub all-sound : (limit n : ℕ) (es : List Event) → Bytes es → AllSound (run (start limit n) es .tables .books)
+pub all-sound : (limit : ℕ) (n : Sizes) (es : List Event) → Bytes es → AllSound (run (start limit n) es .tables .books)
 all-sound limit n es h = inv-run limit n es h .sounds
 
-pub book-replayed : (limit n : ℕ) (es : List Event) → Bytes es → (c : ℕ) → (c ≡ 0 → ⊥) → bookIn c (run (start limit n) es .tables .books) ≡ replayOn c (history (start limit n) es .deeds) Walk.emptyBook
+pub book-replayed : (limit : ℕ) (n : Sizes) (es : List Event) → Bytes es → (c : ℕ) → (c ≡ 0 → ⊥) → bookIn c (run (start limit n) es .tables .books) ≡ replayOn c (history (start limit n) es .deeds) Walk.emptyBook
 book-replayed limit n es h = inv-run limit n es h .booked

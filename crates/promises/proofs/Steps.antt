@@ -8,16 +8,15 @@ use borrow.Author.Tests.{not-false}
 use Rattle.ground.specs.Choice.{oneOf, first, all}
 use Rattle.ground.proofs.Bools.{of-T}
 use Rattle.ground.proofs.Choices.{testOf, noneUpto, first-may, first-skips, each-has}
-use Rattle.books.specs.Table.{unsound, noSlot, misfits}
-use Rattle.feed.specs.Messages.{kind, onMarket, book, wrongSize, listed}
+use Rattle.feed.specs.Messages.{kind, onMarket, tabled, wrongSize, listed}
 use Rattle.feed.specs.Feeds.{inPhase, heardAt, wholeIs}
 use Rattle.feed.specs.Events.{State, Event, News, Linked, More, Heartbeat, Message, news, timeOf, onMessage}
-use Rattle.feed.specs.Answers.{number, arrives, lacksNeed, isMore, isNext, allowed, seen, ofBook, passed, lineTests, tableTests, tests, answerTo, reply}
+use Rattle.feed.specs.Answers.{number, arrives, lacksNeed, isMore, isNext, allowed, seen, unsoundFor, noSlotFor, misfitsFor, passed, lineTests, tableTests, tests, answerTo, reply}
 use Rattle.feed.specs.Steps.{onFeed, connected, advanced, taken, act, accepted, handed, outcome}
 use Rattle.feed.specs.declared.Phase.the-variants.{Lost}
 use Rattle.feed.specs.declared.Kind.{Kind}
 use Rattle.feed.specs.declared.Kind.the-variants.{Session, Market}
-use Rattle.feed.specs.declared.Datum.the-variants.{Book, Other}
+use Rattle.feed.specs.declared.Datum.the-variants.{Book, Strip, Other}
 use Rattle.feed.specs.declared.Link.{Link}
 use Rattle.feed.specs.declared.Answer.{Answer}
 use Rattle.feed.specs.declared.Answer.the-variants.{Keep, Lose, Spoil, Skip, Take}
@@ -37,9 +36,9 @@ pub record Fine (s : State) (time seq internal : ℕ) (m : List ℕ) : Type 0 wh
   pub allow : allowed (kind m) (s .feed .phase) internal ≡ true
   pub unseen : seen (s .feed) (kind m) internal ≡ false
   pub fields : listed (kind m) m ≡ true
-  pub sound : ofBook (kind m) (unsound m (s .tables .books)) ≡ false
-  pub room : ofBook (kind m) (noSlot m (s .tables .books)) ≡ false
-  pub fit : ofBook (kind m) (misfits time m (s .tables .books)) ≡ false
+  pub sound : unsoundFor (kind m) m (s .tables) ≡ false
+  pub room : noSlotFor (kind m) m (s .tables) ≡ false
+  pub fit : misfitsFor (kind m) time m (s .tables) ≡ false
 
 pub fine : (s : State) (time seq internal : ℕ) (m : List ℕ) (n : ℕ) → answerTo (s .feed) (s .tables) time (Message seq internal m) ≡ Take n → Fine s time seq internal m
 unfolding isTake tests lineTests tableTests onMessage number
@@ -96,9 +95,10 @@ pub record Keeps (P : List ℕ → Type 0) (I : State → History → Type 0) : 
 
 -- a market message that is passed over leaves no note but its time
 pub noted : (k : Kind) (time : ℕ) (m : List ℕ) (h : History) → passed k ≡ true → noteTaken k time m h ≡ h
-unfolding passed onMarket book noteTaken
+unfolding passed onMarket tabled noteTaken
 noted (Session s) time m h e = absurd (true≢false (sym e))
 noted (Market Book) time m h e = absurd (true≢false (sym e))
+noted (Market Strip) time m h e = absurd (true≢false (sym e))
 noted (Market Other) time m h e = refl
 
 -- answer 2 is given to messages that are passed over and to nothing else

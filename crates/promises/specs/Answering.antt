@@ -109,7 +109,7 @@ answers =
     ∷ oneCall "18: not sound" (fed Live) broken (arrives (unit 5 8 fits) 20 18) spoilt broken
     ∷ oneCall "17: no slot free" (fed Live) taken (arrives (unit 5 8 fits) 20 17) spoilt taken
     ∷ oneCall "16: does not fit" (fed Live) held (arrives (unit 5 8 misfits) 20 16) spoilt held
-    ∷ oneCall "2: Passed" (fed Live) held (arrives (unit 5 8 (message 40 [])) 20 2) (heard Live 8) held
+    ∷ oneCall "2: Passed" (fed Live) held (arrives (unit 5 8 (message 60 [])) 20 2) (heard Live 8) held
     ∷ oneCall "0: Taken" (fed Live) held (arrives (unit 5 8 fits) 20 0) (heard Live 8) both
     ∷ []
 
@@ -119,7 +119,7 @@ cuts =
     oneCall "10" (fed Live) held (gets (Cut 5 8 fits 9) 10) (fed Live) held
     ∷ oneCall "11" (fed Closed) held (gets (Cut 5 8 fits 20) 11) (fed Closed) held
     ∷ oneCall "12: no bytes, never More" (fed Live) held (gets (Cut 5 8 [] 20) 12) lost held
-    ∷ oneCall "12: three bytes" (fed Live) held (gets (Cut 5 8 (3 ∷ 0 ∷ 40 ∷ []) 20) 12) lost held
+    ∷ oneCall "12: three bytes" (fed Live) held (gets (Cut 5 8 (3 ∷ 0 ∷ 60 ∷ []) 20) 12) lost held
     ∷ oneCall "12: shorter than MsgSize" (fed Live) held (gets (Cut 5 8 (take 35 fits) 20) 12) lost held
     ∷ oneCall "12: longer than MsgSize" (fed Live) held (gets (Cut 5 8 (fits ++ (0 ∷ [])) 20) 12) lost held
     ∷ oneCall "12: never a heartbeat" (fed Live) held (gets (Cut 5 8 (20 ∷ 0 ∷ 0 ∷ 0 ∷ []) 20) 12) lost held
@@ -130,7 +130,7 @@ cuts =
     ∷ oneCall "18" (fed Live) broken (gets (Cut 5 8 fits 20) 18) spoilt broken
     ∷ oneCall "17" (fed Live) taken (gets (Cut 5 8 fits 20) 17) spoilt taken
     ∷ oneCall "16" (fed Live) held (gets (Cut 5 8 misfits 20) 16) spoilt held
-    ∷ oneCall "2" (fed Live) held (gets (Cut 5 8 (message 40 []) 20) 2) (heard Live 8) held
+    ∷ oneCall "2" (fed Live) held (gets (Cut 5 8 (message 60 []) 20) 2) (heard Live 8) held
     ∷ oneCall "0" (fed Live) held (gets (Cut 5 8 fits 20) 0) (heard Live 8) both
     ∷ []
 
@@ -146,13 +146,13 @@ order =
     ∷ oneCall "12 before 14" (fed Live) held (arrives (unit 5 8 (message 203 (0 ∷ 0 ∷ 0 ∷ []))) 20 12) lost held
     ∷ oneCall "13 before 14" (fed Live) held (arrives (unit 9 8 sendKey) 20 13) lost held
     ∷ oneCall "13 before 1" (fed Live) held (arrives (unit 9 7 fits) 20 13) lost held
-    ∷ oneCall "14 before 1" (fed Live) held (arrives (unit 5 0 (message 40 [])) 20 14) lost held
+    ∷ oneCall "14 before 1" (fed Live) held (arrives (unit 5 0 (message 60 [])) 20 14) lost held
     ∷ oneCall "14 before 15" (fed Live) held (arrives (unit 5 8 (logon 4)) 20 14) lost held
     ∷ oneCall "1 before 15" (fed Live) held (arrives (unit 5 7 unlisted) 20 1) (heard Live 7) held
     ∷ oneCall "1 before 18" (fed Live) broken (arrives (unit 5 7 fits) 20 1) (heard Live 7) broken
     ∷ oneCall "1 before 17" (fed Live) taken (arrives (unit 5 7 fits) 20 1) (heard Live 7) taken
     ∷ oneCall "1 before 16" (fed Live) held (arrives (unit 5 7 misfits) 20 1) (heard Live 7) held
-    ∷ oneCall "1 before 2" (fed Live) held (arrives (unit 5 7 (message 40 [])) 20 1) (heard Live 7) held
+    ∷ oneCall "1 before 2" (fed Live) held (arrives (unit 5 7 (message 60 [])) 20 1) (heard Live 7) held
     ∷ oneCall "15 before 18" (fed Live) broken (arrives (unit 5 8 unlisted) 20 15) spoilt broken
     ∷ oneCall "15 before 17" (fed Live) taken (arrives (unit 5 8 unlisted) 20 15) spoilt taken
     ∷ oneCall "15 before 16: the second entry not listed, the first not fitting" (fed Live) held

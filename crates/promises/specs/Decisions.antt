@@ -6,17 +6,18 @@ use mathlib.Core.List.{List, [], _∷_}
 use lib.Dec.{T}
 use Rattle.ground.specs.Choice.{oneOf}
 use Rattle.wire.specs.Number.{bytesOnly}
-use Rattle.books.specs.Table.{noSlot, misfits}
 use Rattle.feed.specs.Events.{Tables, State, Event}
+use Rattle.feed.specs.Answers.{noSlotFor, misfitsFor}
 use Rattle.feed.specs.Steps.{outcome}
 use Rattle.feed.specs.Program.{programRun}
 use Rattle.feed.specs.declared.Phase.the-variants.{Refreshing, Live}
-use Rattle.promises.specs.Runs.{zeroed, endOf, Deed, Took, tale, perform}
+use Rattle.feed.specs.declared.Kind.the-variants.{Market}
+use Rattle.promises.specs.Runs.{Sizes, zeroed, endOf, Deed, Took, tale, perform}
 
 -- 38. Whole: "No throughout Refreshing, and always yes in Live", in every run
 abbrev pub WholeInLive : Type 0
 WholeInLive =
-    (limit n : ℕ) (es : List Event)
+    (limit : ℕ) (n : Sizes) (es : List Event)
     → (endOf limit n es .feed .phase ≡ Refreshing → endOf limit n es .feed .whole ≡ false)
     × (endOf limit n es .feed .phase ≡ Live → endOf limit n es .feed .whole ≡ true)
 
@@ -32,11 +33,11 @@ ProgramEnds = (s : List ℕ) → T (bytesOnly s) → T (oneOf (programRun s .ans
 
 -- 104. Replay: "no replayed message misfits", and each finds a slot
 unfoldable pub fitsDeed : Deed → Tables → Bool
-fitsDeed (Took time m) x = not (noSlot m (x .books)) && not (misfits time m (x .books))
+fitsDeed (Took d time m) x = not (noSlotFor (Market d) m x) && not (misfitsFor (Market d) time m x)
 
 unfoldable pub fitting : List Deed → Tables → Bool
 fitting [] x = true
 fitting (d ∷ ds) x = fitsDeed d x && fitting ds (perform d x)
 
 abbrev pub ReplayFits : Type 0
-ReplayFits = (limit n : ℕ) (es : List Event) → T (fitting (tale limit n es .deeds) (zeroed n))
+ReplayFits = (limit : ℕ) (n : Sizes) (es : List Event) → T (fitting (tale limit n es .deeds) (zeroed n))

@@ -12,6 +12,7 @@ use Rattle.wire.specs.Codes.{securityCode}
 use Rattle.ladder.specs.Message.{hasEntries}
 use Rattle.ladder.specs.Walk.{emptyBook, bookAfter}
 use Rattle.books.specs.Table.{books, misfit}
+use Rattle.strips.specs.Table.{strips}
 use Rattle.feed.specs.Messages.{kind, wrongSize, listed, statusOf, logonStatus, lastInternal}
 use Rattle.feed.specs.Feeds.{badgeNo, badgeOf}
 use Rattle.feed.specs.Events.{Event, Connect, News, Linked, More, Heartbeat, Message, news, timeOf}
@@ -21,11 +22,11 @@ use Rattle.feed.specs.declared.Kind.{Kind}
 use Rattle.feed.specs.declared.Kind.the-variants.{Session, Market}
 use Rattle.feed.specs.declared.Session.the-variants.{SendKey, Logon, Logout, Refresh, Complete, Request}
 use Rattle.feed.specs.declared.Datum.{Datum}
-use Rattle.feed.specs.declared.Datum.the-variants.{Book, Other}
+use Rattle.feed.specs.declared.Datum.the-variants.{Book, Strip, Other}
 use Rattle.feed.specs.declared.Status.{Status}
 use Rattle.feed.specs.declared.Status.the-variants.{Opens, Refills, Stays, Closes, Unlisted}
 use Rattle.feed.specs.declared.Link.the-variants.{Fresh}
-use Rattle.promises.specs.Runs.{start, run, trace, Deed, Took, history, replayOn}
+use Rattle.promises.specs.Runs.{Sizes, start, run, trace, Deed, Took, history, replayOn}
 use Rattle.promises.specs.Demands.{Bytes, letsIn}
 
 -- what is due: the key, the logon, what a refresh brings, what the day brings
@@ -48,26 +49,27 @@ pub record Talk : Type 0 where
   pub next : ℕ
   pub last : ℕ
   pub at : ℕ
-  -- the book messages, each once, and the codes that they gave entries for, each once
+  -- the book messages and strip messages, each once, the codes that had entries, each once, and the codes that had strips, each once
   pub deeds : List Deed
   pub codes : List ℕ
+  pub stripped : List ℕ
 
 -- nothing, after a connect at a time
 abbrev pub begins : ℕ → Talk
-begins time = record { stage = NeedsKey; next = 1; last = 0; at = time; deeds = []; codes = [] }
+begins time = record { stage = NeedsKey; next = 1; last = 0; at = time; deeds = []; codes = []; stripped = [] }
 
 abbrev pub toStage : Stage → Talk → Talk
-toStage g w = record { stage = g; next = w .next; last = w .last; at = w .at; deeds = w .deeds; codes = w .codes }
+toStage g w = record { stage = g; next = w .next; last = w .last; at = w .at; deeds = w .deeds; codes = w .codes; stripped = w .stripped }
 
 abbrev pub lastIs : ℕ → Talk → Talk
-lastIs i w = record { stage = w .stage; next = w .next; last = i; at = w .at; deeds = w .deeds; codes = w .codes }
+lastIs i w = record { stage = w .stage; next = w .next; last = i; at = w .at; deeds = w .deeds; codes = w .codes; stripped = w .stripped }
 
-abbrev pub tells : Deed → List ℕ → Talk → Talk
-tells d cs w = record { stage = w .stage; next = w .next; last = w .last; at = w .at; deeds = w .deeds ++ (d ∷ []); codes = cs }
+abbrev pub tells : Deed → List ℕ → List ℕ → Talk → Talk
+tells d cs ss w = record { stage = w .stage; next = w .next; last = w .last; at = w .at; deeds = w .deeds ++ (d ∷ []); codes = cs; stripped = ss }
 
 -- one message more, or a heartbeat, at a time
 abbrev pub spoken : ℕ → ℕ → Talk → Talk
-spoken next time w = record { stage = w .stage; next = next; last = w .last; at = time; deeds = w .deeds; codes = w .codes }
+spoken next time w = record { stage = w .stage; next = next; last = w .last; at = time; deeds = w .deeds; codes = w .codes; stripped = w .stripped }
 
 -- what may come when: the key; the logon with 0, 2 or 101; in a refresh 1202, 203 and market messages without an internal number; then market messages with one
 unfoldable pub due : Kind → Stage → ℕ → List ℕ → Bool
@@ -83,20 +85,22 @@ due (Market d) g internal m = (on g Fills && eqb internal 0) || (on g Open && le
 unfoldable pub again : Talk → ℕ → Bool
 again w internal = on (w .stage) Open && leb internal (w .last)
 
--- "entries that fit; no more codes than slots": the entries fit the code's book, as the messages for that code have made it
-unfoldable pub fits : ℕ → Talk → ℕ → Datum → List ℕ → Bool
+-- "entries that fit; no more codes than slots": the entries fit the code's book, as the messages for that code have made it; of strips no more
+-- codes than slots. (`slots` are the slots of each table)
+unfoldable pub fits : Sizes → Talk → ℕ → Datum → List ℕ → Bool
 fits slots w time Book m =
     not (hasEntries m)
-    || (leb (length (withCode (securityCode m) (w .codes))) slots
+    || (leb (length (withCode (securityCode m) (w .codes))) (slots .books)
     && not (misfit (bookAfter time m (replayOn (securityCode m) (w .deeds) emptyBook))))
+fits slots w time Strip m = leb (length (withCode (securityCode m) (w .stripped))) (slots .strips)
 fits slots w time Other m = true
 
-unfoldable pub good : ℕ → Talk → ℕ → Kind → ℕ → List ℕ → Bool
+unfoldable pub good : Sizes → Talk → ℕ → Kind → ℕ → List ℕ → Bool
 good slots w time (Session s) internal m = true
 good slots w time (Market d) internal m = again w internal || fits slots w time d m
 
 -- "numbers without a gap; sizes and fields as listed"
-unfoldable pub fairNews : ℕ → Talk → ℕ → News → Bool
+unfoldable pub fairNews : Sizes → Talk → ℕ → News → Bool
 fairNews slots w time (Linked link) = false
 fairNews slots w time More = false
 fairNews slots w time Heartbeat = true
@@ -105,7 +109,7 @@ fairNews slots w time (Message seq internal m) =
     && good slots w time (kind m) internal m
 
 -- "never silent beyond the limit"
-unfoldable pub fair : ℕ → ℕ → Talk → Event → Bool
+unfoldable pub fair : ℕ → Sizes → Talk → Event → Bool
 fair limit slots w e = leb (w .at) (timeOf e) && leb (timeOf e) (w .at + limit) && fairNews slots w (timeOf e) (news e)
 
 -- what has then been said
@@ -117,7 +121,8 @@ afterLogon Closes w = w
 afterLogon Unlisted w = w
 
 unfoldable pub told : Datum → ℕ → List ℕ → Talk → Talk
-told Book time m w = tells (Took time m) (cond (hasEntries m) (withCode (securityCode m) (w .codes)) (w .codes)) w
+told Book time m w = tells (Took Book time m) (cond (hasEntries m) (withCode (securityCode m) (w .codes)) (w .codes)) (w .stripped) w
+told Strip time m w = tells (Took Strip time m) (w .codes) (withCode (securityCode m) (w .stripped)) w
 told Other time m w = w
 
 unfoldable pub says : Kind → ℕ → ℕ → List ℕ → Talk → Talk
@@ -140,17 +145,21 @@ unfoldable pub talk : Talk → List Event → Talk
 talk w [] = w
 talk w (e ∷ es) = talk (saidNews (news e) (timeOf e) w) es
 
-unfoldable pub fairly : ℕ → ℕ → Talk → List Event → Bool
+unfoldable pub fairly : ℕ → Sizes → Talk → List Event → Bool
 fairly limit slots w [] = true
 fairly limit slots w (e ∷ es) = fair limit slots w e && fairly limit slots (saidNews (news e) (timeOf e) w) es
+
+-- the slots of tables of so many words
+abbrev pub slotsOf : Sizes → Sizes
+slotsOf n = record { books = countIn books (n .books); strips = countIn strips (n .strips) }
 
 -- THE GOOD MORNING. After any run whatever, a fresh connect whose time is not before the last heard, and then any conversation that the rules allow:
 -- every arrival is answered 0, 1 or 2; and after any part of it the badge, once the logon with 0 or 2 or else 203 has been said, is green from the
 -- time of what was said last until the silence limit
 abbrev pub GoodMorning : Type 0
 GoodMorning =
-    (limit n : ℕ) (es : List Event) (time : ℕ) (part rest : List Event) → Bytes es → Bytes (part ++ rest) → history (start limit n) es .heard ≤ time
-    → T (fairly (start limit n .feed .limit) (countIn books n) (begins time) (part ++ rest))
+    (limit : ℕ) (n : Sizes) (es : List Event) (time : ℕ) (part rest : List Event) → Bytes es → Bytes (part ++ rest) → history (start limit n) es .heard ≤ time
+    → T (fairly (start limit n .feed .limit) (slotsOf n) (begins time) (part ++ rest))
     → T (all (λ p. accepted (p .1)) (trace (run (start limit n) (es ++ (Connect Fresh time ∷ []))) (part ++ rest)))
     × ((asked : ℕ) → on (talk (begins time) part .stage) Open ≡ true → talk (begins time) part .at ≤ asked
     → asked ≤ talk (begins time) part .at + start limit n .feed .limit

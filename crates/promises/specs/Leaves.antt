@@ -5,10 +5,10 @@ use mathlib.Core.Bool.{Bool, true, false, _||_}
 use mathlib.Core.List.{List}
 use lib.ListN.{length, drop, replicate}
 use Rattle.slots.specs.Slots.{codeOf}
-use Rattle.slots.specs.Layout.{countIn, slotsIn}
-use Rattle.ladder.specs.Words.{bookWidth}
-use Rattle.books.specs.Table.{books, block}
-use Rattle.feed.specs.Messages.{kind, onMarket, book}
+use Rattle.slots.specs.Layout.{Layout, countIn, slotsIn, block}
+use Rattle.books.specs.Table.{books}
+use Rattle.strips.specs.Table.{strips}
+use Rattle.feed.specs.Messages.{kind, onMarket, tabled}
 use Rattle.feed.specs.Events.{State, Event, news, onMessage}
 use Rattle.feed.specs.Steps.{clears, outcome}
 use Rattle.feed.specs.declared.Kind.{Kind}
@@ -19,29 +19,39 @@ unfoldable pub wipes : Bool → Kind → List ℕ → Bool
 wipes fresh (Session k) m = clears k m fresh
 wipes fresh (Market d) m = false
 
--- an event that brings such a logon; or that or a book message
+-- an event that brings such a logon; or that or a message for a table
 unfoldable pub clearing : State → Event → Bool
 clearing s e = onMessage (λ seq internal m. wipes (s .feed .fresh) (kind m) m) (news e)
 
 unfoldable pub writing : State → Event → Bool
-writing s e = onMessage (λ seq internal m. onMarket book (kind m) || wipes (s .feed .fresh) (kind m) m) (news e)
+writing s e = onMessage (λ seq internal m. onMarket tabled (kind m) || wipes (s .feed .fresh) (kind m) m) (news e)
 
 -- Seen, Passed, heartbeats, session messages that do not clear, connects, and whatever is refused, leave every word: only what is answered 0 and is
--- a book message or clears can change one
+-- a book message, a strip message or clears can change one
 abbrev pub Leaves : Type 0
 Leaves = (s : State) (e : Event) → (outcome s e .given .answer ≡ 0 → writing s e ≡ false) → outcome s e .tables ≡ s .tables
 
--- a clearing makes every slot zeros, and leaves the words behind the slots
+-- every slot is zeros, and the words behind the slots are as they were
+abbrev pub Wiped : {A : Type 0} → Layout A → List ℕ → List ℕ → Type 0
+Wiped L t u =
+    (slotsIn L u ≡ replicate (countIn L (length t)) (replicate (L .width) 0))
+    × (drop (L .width * countIn L (length t)) u ≡ drop (L .width * countIn L (length t)) t)
+    × (length u ≡ length t)
+
+-- a clearing does that to both tables
 abbrev pub WipesSlots : Type 0
 WipesSlots =
     (s : State) (e : Event) → outcome s e .given .answer ≡ 0 → clearing s e ≡ true
-    → (slotsIn books (outcome s e .tables .books) ≡ replicate (countIn books (length (s .tables .books))) (replicate bookWidth 0))
-    × (drop (bookWidth * countIn books (length (s .tables .books))) (outcome s e .tables .books)
-    ≡ drop (bookWidth * countIn books (length (s .tables .books))) (s .tables .books))
-    × (length (outcome s e .tables .books) ≡ length (s .tables .books))
+    → Wiped books (s .tables .books) (outcome s e .tables .books)
+    × Wiped strips (s .tables .strips) (outcome s e .tables .strips)
 
--- nothing but a clearing frees a slot: a slot that has a code keeps it
+-- a slot that has a code keeps it
+abbrev pub Keeps : {A : Type 0} → Layout A → List ℕ → List ℕ → Type 0
+Keeps L t u = (j : ℕ) → (codeOf (block L j t) ≡ 0 → ⊥) → codeOf (block L j u) ≡ codeOf (block L j t)
+
+-- nothing but a clearing frees a slot, of either table
 abbrev pub KeepsSlots : Type 0
 KeepsSlots =
     (s : State) (e : Event) → (outcome s e .given .answer ≡ 0 → clearing s e ≡ false)
-    → (j : ℕ) → (codeOf (block j (s .tables .books)) ≡ 0 → ⊥) → codeOf (block j (outcome s e .tables .books)) ≡ codeOf (block j (s .tables .books))
+    → Keeps books (s .tables .books) (outcome s e .tables .books)
+    × Keeps strips (s .tables .strips) (outcome s e .tables .strips)

@@ -36,7 +36,7 @@ logsOn status = Arrive (unit 1 0 sendKey) 5000 ∷ Arrive (unit 2 0 (logon statu
 unfoldable pub day : List Event
 day =
     logsOn 0
-    ++ (Arrive (unit 3 7 (twoBids 700)) 6000 ∷ Arrive heartbeat 7000 ∷ Arrive (unit 4 8 (message 40 [])) 7001 ∷ Arrive (unit 5 7 (tenth 700)) 7001
+    ++ (Arrive (unit 3 7 (twoBids 700)) 6000 ∷ Arrive heartbeat 7000 ∷ Arrive (unit 4 8 (message 60 [])) 7001 ∷ Arrive (unit 5 7 (tenth 700)) 7001
     ∷ Cut 6 12 (better 700) 7500 ∷ [])
 
 -- a day with one: 101, 1202, a book, 203 with the number 9, then the day
@@ -93,7 +93,7 @@ unfoldable pub resumed : List Event
 resumed =
     (Connect Fresh 5000 ∷ day)
     ++ (Connect Resuming 8000 ∷ Arrive (unit 1 0 sendKey) 8000 ∷ Arrive (unit 2 0 (logon 0)) 8000 ∷ Arrive (unit 3 12 (better 700)) 8000
-    ∷ Arrive (unit 4 13 (message 40 [])) 8000 ∷ [])
+    ∷ Arrive (unit 4 13 (message 60 [])) 8000 ∷ [])
 
 unfoldable pub ledgers : List Check
 ledgers =
@@ -168,7 +168,7 @@ tales =
     ∷ recounts "the day" (Connect Fresh 5000 ∷ day) (greenFrom 7500) true (threeBids 700 ++ freeSlot)
     ∷ recounts "the day up to its heartbeat" (Connect Fresh 5000 ∷ take 4 day) (greenFrom 7000) true (block 700 (row 9730 4000 2 ∷ row 9720 100 1 ∷ []) [] ++ freeSlot)
     ∷ recounts "the day with a refresh" (Connect Fresh 5000 ∷ refilled) (greenFrom 6500) true (threeBids 700 ++ freeSlot)
-    ∷ recounts "a message passed over is heard" (logonThen 0 (Arrive (unit 3 7 (message 40 [])) 6100 ∷ [])) (greenFrom 6100) true (freeSlot ++ freeSlot)
+    ∷ recounts "a message passed over is heard" (logonThen 0 (Arrive (unit 3 7 (message 60 [])) 6100 ∷ [])) (greenFrom 6100) true (freeSlot ++ freeSlot)
     ∷ recounts "one that was seen too, and is not applied again" (logonThen 0 (Arrive (unit 3 7 (better 700)) 6000 ∷ Arrive (unit 4 7 (tenth 700)) 6100 ∷ []))
     (greenFrom 6100) true (oneBid 700 ++ freeSlot)
     ∷ recounts "two codes" twoCodes (greenFrom 6000) true (threeBids 701 ++ oneBid 700)

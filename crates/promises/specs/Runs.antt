@@ -8,6 +8,8 @@ use Rattle.ground.specs.Choice.{oneOf}
 use Rattle.slots.specs.Layout.{valueAfter}
 use Rattle.ladder.specs.Walk.{Book}
 use Rattle.books.specs.Table.{stepOf}
+use Rattle.strips.specs.Table as strip
+use Rattle.strips.specs.declared.Strip.{Strip}
 use Rattle.feed.specs.Messages.{kind, statusOf, logonStatus}
 use Rattle.feed.specs.Feeds.{newGiven, badgeNo, badgeOf}
 use Rattle.feed.specs.Events.{Tables, State, Event, News, Linked, More, Heartbeat, Message, news, timeOf}
@@ -15,17 +17,23 @@ use Rattle.feed.specs.Steps.{isFresh, tablesAfter, accepted, outcome}
 use Rattle.feed.specs.declared.Kind.{Kind}
 use Rattle.feed.specs.declared.Kind.the-variants.{Session, Market}
 use Rattle.feed.specs.declared.Session.the-variants.{SendKey, Logon, Logout, Refresh, Complete, Request}
+use Rattle.feed.specs.declared.Datum.{Datum}
 use Rattle.feed.specs.declared.Datum.the-variants as datum
 use Rattle.feed.specs.declared.Status.{Status}
 use Rattle.feed.specs.declared.Status.the-variants.{Opens, Refills, Stays, Closes, Unlisted}
 use Rattle.feed.specs.declared.Link.{Link}
 use Rattle.promises.specs.Refusals.{ending}
 
--- "Start with a new feed and a zeroed table": a new feed of any limit asked for, and n zero words
-abbrev pub zeroed : ℕ → Tables
-zeroed n = record { books = replicate n 0 }
+-- how many words of each table are lent
+pub record Sizes : Type 0 where
+  pub books : ℕ
+  pub strips : ℕ
 
-abbrev pub start : ℕ → ℕ → State
+-- "Start with a new feed and a zeroed table": a new feed of any limit asked for, and zero words of both tables ("demand 3 speaks of both")
+abbrev pub zeroed : Sizes → Tables
+zeroed n = record { books = replicate (n .books) 0; strips = replicate (n .strips) 0 }
+
+abbrev pub start : ℕ → Sizes → State
 start limit n = record { feed = newGiven limit .feed; tables = zeroed n }
 
 -- "lend that same table at every call, and hand in each time the feed last handed back"
@@ -45,9 +53,9 @@ unfoldable pub trace : State → List Event → List (Event × ℕ)
 trace s [] = []
 trace s (e ∷ es) = (e, answerOf s e) ∷ trace (after s e) es
 
--- a book message taken at a time
+-- a message taken at a time, for the books or for the strips
 pub data Deed : Type 0 where
-  Took : (time : ℕ) (message : List ℕ) → Deed
+  Took : (datum : Datum) (time : ℕ) (message : List ℕ) → Deed
 
 -- what the events and their numbers tell
 pub record History : Type 0 where
@@ -61,7 +69,7 @@ pub record History : Type 0 where
   pub heard : ℕ
   -- the last accepted connect was fresh
   pub fresh : Bool
-  -- the book messages taken since the last clearing
+  -- the book messages and strip messages taken since the last clearing
   pub deeds : List Deed
 
 abbrev pub noHistory : History
@@ -102,7 +110,8 @@ noteTaken (Session Logout) time m h = noteOver h
 noteTaken (Session Refresh) time m h = h
 noteTaken (Session Complete) time m h = noteComplete h
 noteTaken (Session Request) time m h = h
-noteTaken (Market datum.Book) time m h = noteDeed (Took time m) h
+noteTaken (Market datum.Book) time m h = noteDeed (Took datum.Book time m) h
+noteTaken (Market datum.Strip) time m h = noteDeed (Took datum.Strip time m) h
 noteTaken (Market datum.Other) time m h = h
 
 unfoldable pub noteNews : News → ℕ → History → History
@@ -127,11 +136,11 @@ recall h (p ∷ ps) = recall (note h (p .0) (p .1)) ps
 abbrev pub history : State → List Event → History
 history s es = recall noHistory (trace s es)
 
--- a run from a new feed and n zero words: where it ends, and what its events and answers tell
-abbrev pub endOf : ℕ → ℕ → List Event → State
+-- a run from a new feed and zeroed tables: where it ends, and what its events and answers tell
+abbrev pub endOf : ℕ → Sizes → List Event → State
 endOf limit n es = run (start limit n) es
 
-abbrev pub tale : ℕ → ℕ → List Event → History
+abbrev pub tale : ℕ → Sizes → List Event → History
 tale limit n es = history (start limit n) es
 
 -- whether the badge is green at a time
@@ -143,18 +152,29 @@ isGreen s time = eqb (badgeNo (badgeOf (s .feed) time)) 1
 unfoldable pub green : History → ℕ → ℕ → Bool
 green h limit time = h .up && not (h .owed) && not (h .over) && leb (h .heard) time && leb time (h .heard + limit)
 
--- "replaying from empty, in order, the book messages taken since the last clearing"
+-- "replaying from empty, in order, the book messages taken since the last clearing", and the strip messages
 unfoldable pub perform : Deed → Tables → Tables
-perform (Took time m) x = tablesAfter datum.Book time m x
+perform (Took d time m) x = tablesAfter d time m x
 
 unfoldable pub replay : List Deed → Tables → Tables
 replay [] x = x
 replay (d ∷ ds) x = replay ds (perform d x)
 
--- the same for one code, by the messages for that code alone and with no table
+-- the same for one code, by the messages for that code alone and with no table: its book, and its strip
 unfoldable pub performOn : ℕ → Deed → Book → Book
-performOn c (Took time m) b = valueAfter c (stepOf time m) b
+performOn c (Took datum.Book time m) b = valueAfter c (stepOf time m) b
+performOn c (Took datum.Strip time m) b = b
+performOn c (Took datum.Other time m) b = b
 
 unfoldable pub replayOn : ℕ → List Deed → Book → Book
 replayOn c [] b = b
 replayOn c (d ∷ ds) b = replayOn c ds (performOn c d b)
+
+unfoldable pub performStrip : ℕ → Deed → Strip → Strip
+performStrip c (Took datum.Book time m) s = s
+performStrip c (Took datum.Strip time m) s = valueAfter c (strip.stepOf m) s
+performStrip c (Took datum.Other time m) s = s
+
+unfoldable pub replayStrip : ℕ → List Deed → Strip → Strip
+replayStrip c [] s = s
+replayStrip c (d ∷ ds) s = replayStrip c ds (performStrip c d s)

@@ -61,8 +61,8 @@ tiny =
     ∷ oneCall "MsgSize 1" (fed Live) held (arrives (headed (1 ∷ 0 ∷ [])) 20 12) lost held
     ∷ oneCall "MsgSize 2" (fed Live) held (arrives (headed (2 ∷ 0 ∷ [])) 20 12) lost held
     ∷ torn "MsgSize 3, two bytes" (headed (3 ∷ 0 ∷ []))
-    ∷ oneCall "MsgSize 3" (fed Live) held (arrives (headed (3 ∷ 0 ∷ 40 ∷ [])) 20 12) lost held
-    ∷ oneCall "MsgSize 4" (fed Live) held (arrives (headed (4 ∷ 0 ∷ 40 ∷ 0 ∷ [])) 20 2) (heard Live 8) held
+    ∷ oneCall "MsgSize 3" (fed Live) held (arrives (headed (3 ∷ 0 ∷ 60 ∷ [])) 20 12) lost held
+    ∷ oneCall "MsgSize 4" (fed Live) held (arrives (headed (4 ∷ 0 ∷ 60 ∷ 0 ∷ [])) 20 2) (heard Live 8) held
     ∷ []
 
 -- a message of a wrong size is 12, and one of a right size is not
@@ -115,15 +115,15 @@ types =
 -- "After SeqNum 4,294,967,295 the next never comes"
 unfoldable pub sequence : List Check
 sequence =
-    oneCall "the next" (fed Live) held (arrives (unit 5 8 (message 40 [])) 20 2) (heard Live 8) held
-    ∷ oneCall "4,294,967,295" (feed Live 4294967295 7 10 true true) held (arrives (unit 4294967295 8 (message 40 [])) 20 2) (feed Live 4294967296 8 20 true true) held
-    ∷ oneCall "after it, 0" (feed Live 4294967296 7 10 true true) held (arrives (unit 0 8 (message 40 [])) 20 13) (feed Lost 4294967296 7 10 true true) held
-    ∷ oneCall "after it, 1" (feed Live 4294967296 7 10 true true) held (arrives (unit 1 8 (message 40 [])) 20 13) (feed Lost 4294967296 7 10 true true) held
-    ∷ oneCall "after it, the same again" (feed Live 4294967296 7 10 true true) held (arrives (unit 4294967295 8 (message 40 [])) 20 13) (feed Lost 4294967296 7 10 true true) held
-    ∷ oneCall "after it, 4,294,967,296 handed over" (feed Live 4294967296 7 10 true true) held (gets (Cut 4294967296 8 (message 40 []) 20) 13) (feed Lost 4294967296 7 10 true true) held
+    oneCall "the next" (fed Live) held (arrives (unit 5 8 (message 60 [])) 20 2) (heard Live 8) held
+    ∷ oneCall "4,294,967,295" (feed Live 4294967295 7 10 true true) held (arrives (unit 4294967295 8 (message 60 [])) 20 2) (feed Live 4294967296 8 20 true true) held
+    ∷ oneCall "after it, 0" (feed Live 4294967296 7 10 true true) held (arrives (unit 0 8 (message 60 [])) 20 13) (feed Lost 4294967296 7 10 true true) held
+    ∷ oneCall "after it, 1" (feed Live 4294967296 7 10 true true) held (arrives (unit 1 8 (message 60 [])) 20 13) (feed Lost 4294967296 7 10 true true) held
+    ∷ oneCall "after it, the same again" (feed Live 4294967296 7 10 true true) held (arrives (unit 4294967295 8 (message 60 [])) 20 13) (feed Lost 4294967296 7 10 true true) held
+    ∷ oneCall "after it, 4,294,967,296 handed over" (feed Live 4294967296 7 10 true true) held (gets (Cut 4294967296 8 (message 60 []) 20) 13) (feed Lost 4294967296 7 10 true true) held
     ∷ oneCall "after it, a heartbeat" (feed Live 4294967296 7 10 true true) held (arrives heartbeat 20 0) (feed Live 4294967296 7 20 true true) held
     ∷ oneCall "after it, a connect" (feed Live 4294967296 7 10 true true) held (gets (Connect Fresh 20) 0) (feed WaitKey 1 7 20 true true) held
-    ∷ oneCall "internal number 4,294,967,295" (fed Live) held (arrives (unit 5 4294967295 (message 40 [])) 20 2) (heard Live 4294967295) held
+    ∷ oneCall "internal number 4,294,967,295" (fed Live) held (arrives (unit 5 4294967295 (message 60 [])) 20 2) (heard Live 4294967295) held
     ∷ oneCall "after it, the same is Seen" (feed Live 5 4294967295 10 true true) held (arrives (unit 5 4294967295 fits) 20 1) (heard Live 4294967295) held
     ∷ oneCall "a gap in the internal numbers" (fed Live) held (arrives (unit 5 1000 fits) 20 0) (heard Live 1000) both
     ∷ []

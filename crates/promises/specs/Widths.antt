@@ -11,7 +11,7 @@ use Rattle.promises.specs.Entries.{makes, not}
 unfoldable pub widths : List Check
 widths =
     oneCall "SeqNum and internal number, all four bytes" (feed Live 0x04030201 0x05060707 10 true true) held
-    (arrives (unit 0x04030201 0x05060708 (message 40 [])) 20 2) (feed Live 0x04030202 0x05060708 20 true true) held
+    (arrives (unit 0x04030201 0x05060708 (message 60 [])) 20 2) (feed Live 0x04030202 0x05060708 20 true true) held
     ∷ oneCall "203's number, all four bytes" (fed Refreshing) held (arrives (unit 5 0 (complete 0x14131211)) 20 0) (heard Live 0x14131211) held
     ∷ makes "price, quantity and orders, all their bytes" [] [] (entry 1 1 0 0x14131211 0x0807060504030201 0x24232221 ∷ []) []
     (row 0x14131211 0x0807060504030201 0x24232221 ∷ [])

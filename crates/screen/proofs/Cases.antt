@@ -2,23 +2,24 @@
 use Prim.Native.Nat.{ℕ}
 use mathlib.Core.Path.{_≡_, ap}
 use mathlib.Core.Bool.{Bool, true, false}
-use mathlib.Core.List.{List}
 use borrow.Author.Needs.{needs}
 use borrow.Author.Tests.{eq-eqb, ne-eqb}
 use Rattle.feed.specs.Feeds.{phaseNo, phaseOf, newGiven}
 use Rattle.feed.specs.Events.{Tables, Event, Connect}
-use Rattle.feed.specs.Steps.{lent, stateOf, outOf, outcome}
+use Rattle.feed.specs.Steps.{stateOf, outOf, outcome}
 use Rattle.feed.specs.declared.Phase.{Phase}
 use Rattle.feed.specs.declared.Link.{Link}
 use Rattle.feed.specs.declared.Link.the-variants.{Fresh, Resuming}
 use Rattle.feed.specs.declared.Feed.{Feed}
 use Rattle.feed.specs.declared.Given.{Given}
-use Rattle.screen.specs.Plain.{yes, bit, linkOf, feedOf, plainFeed, plainGiven, plainOut, plainOutcome, plainRow, plainSide}
+use Rattle.screen.specs.Plain.{yes, bit, linkOf, feedOf, plainFeed, plainGiven, plainOut, plainOutcome, plainRow, plainSide, plainStrip}
 use Rattle.screen.specs.Calls.{handsBack, Connects}
 use Rattle.books.specs.declared.RowRead.{RowRead}
 use Rattle.books.specs.declared.SideRead.{SideRead}
+use Rattle.strips.specs.declared.StripRead.{StripRead}
 use Rattle.screen.specs.declared.MmdhRow.{MmdhRow}
 use Rattle.screen.specs.declared.MmdhSide.{MmdhSide}
+use Rattle.screen.specs.declared.MmdhStrip.{MmdhStrip}
 use Rattle.screen.specs.declared.MmdhFeed.{MmdhFeed}
 use Rattle.screen.specs.declared.MmdhGiven.{MmdhGiven}
 
@@ -62,12 +63,12 @@ new-plain limit g r e h = rw (← e) h
 
 pub connect-plain : (c : MmdhFeed) (f : Feed) (resuming time : ℕ) (link : Link) (g : Given) (r : MmdhGiven) → f ≡ feedOf c → link ≡ linkOf resuming
     → ((x : Tables) → record { given = g; tables = x } ≡ outcome (record { feed = f; tables = x }) (Connect link time)) → r ≡ plainGiven g
-    → (t : List ℕ) → plainOut r t ≡ handsBack c t (Connects resuming time)
-connect-plain c f resuming time link g r a b e h t = rw (h, ← a, ← b) (ap plainOutcome (e (record { books = t })))
+    → (x : Tables) → plainOut r x ≡ handsBack c x (Connects resuming time)
+connect-plain c f resuming time link g r a b e h x = rw (h, ← a, ← b) (ap plainOutcome (e x))
 
-pub arrive-plain : (c : MmdhFeed) (f : Feed) (t u : List ℕ) (e : Event) (g : Given) (r : MmdhGiven) → f ≡ feedOf c
-    → outOf g (lent u) ≡ outcome (stateOf f (lent t)) e → r ≡ plainGiven g → plainOut r u ≡ plainOutcome (outcome (stateOf (feedOf c) (lent t)) e)
-arrive-plain c f t u e g r a q h = rw (h, ← a) (ap plainOutcome q)
+pub arrive-plain : (c : MmdhFeed) (f : Feed) (x y : Tables) (e : Event) (g : Given) (r : MmdhGiven) → f ≡ feedOf c
+    → outOf g y ≡ outcome (stateOf f x) e → r ≡ plainGiven g → plainOut r y ≡ plainOutcome (outcome (stateOf (feedOf c) x) e)
+arrive-plain c f x y e g r a q h = rw (h, ← a) (ap plainOutcome q)
 
 pub row-plain : (x r : RowRead) → r ≡ x → _≡_ {A = MmdhRow} (record { answer = r .answer; price = r .price; quantity = r .quantity; orders = r .orders }) (plainRow x)
 row-plain x r e = ap plainRow e
@@ -75,4 +76,22 @@ row-plain x r e = ap plainRow e
 pub side-plain : (x r : SideRead) → r ≡ x → _≡_ {A = MmdhSide} (record { answer = r .answer; count = r .count; row = r .rows }) (plainSide x)
 side-plain x r e = ap plainSide e
 
-pub ruleset cases = (needs, not-yes, is-yes, bit-one, bit-none, link-fresh, link-resuming, as-feed, as-plain, as-given, new-plain, connect-plain, arrive-plain, row-plain, side-plain)
+pub strip-plain : (x r : StripRead) → r ≡ x
+    → _≡_ {A = MmdhStrip}
+    (record {
+      answer = r .answer;
+      flags = r .flags;
+      nominal = r .nominal;
+      iep = r .iep;
+      iev = r .iev;
+      reference = r .reference;
+      lower = r .lower;
+      upper = r .upper;
+      direction = r .direction;
+      imbalance = r .imbalance;
+      closing = r .closing;
+    })
+    (plainStrip x)
+strip-plain x r e = ap plainStrip e
+
+pub ruleset cases = (needs, not-yes, is-yes, bit-one, bit-none, link-fresh, link-resuming, as-feed, as-plain, as-given, new-plain, connect-plain, arrive-plain, row-plain, side-plain, strip-plain)

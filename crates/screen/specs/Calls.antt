@@ -1,8 +1,8 @@
 -- What the calls that change a feed hand back, in plain numbers. Assumes nothing.
 use Prim.Native.Nat.{ℕ}
 use mathlib.Core.List.{List}
-use Rattle.feed.specs.Events.{Event, Connect, Arrive, Cut}
-use Rattle.feed.specs.Steps.{lent, stateOf, outcome}
+use Rattle.feed.specs.Events.{Tables, Event, Connect, Arrive, Cut}
+use Rattle.feed.specs.Steps.{stateOf, outcome}
 use Rattle.screen.specs.Plain.{linkOf, feedOf, PlainOut, plainOutcome}
 use Rattle.screen.specs.declared.MmdhFeed.{MmdhFeed}
 
@@ -18,5 +18,5 @@ eventOf (Arrives bytes time) = Arrive bytes time
 eventOf (ArrivesCut seq internal m time) = Cut seq internal m time
 
 -- what a call hands back for any seven numbers, with the words after it: mmdh_connect, mmdh_arrive, mmdh_arrive_cut, by their contracts
-abbrev pub handsBack : MmdhFeed → List ℕ → Call → PlainOut
-handsBack f t c = plainOutcome (outcome (stateOf (feedOf f) (lent t)) (eventOf c))
+abbrev pub handsBack : MmdhFeed → Tables → Call → PlainOut
+handsBack f x c = plainOutcome (outcome (stateOf (feedOf f) x) (eventOf c))

@@ -3,14 +3,17 @@ use Prim.Native.Nat.{ℕ}
 use mathlib.Core.Path.{_≡_}
 use mathlib.Core.List.{List}
 use Rattle.books.specs.Reading.{readRow, readSide}
+use Rattle.strips.specs.Reading.{readStrip}
 use Rattle.feed.specs.Feeds.{newGiven, plainBadge}
+use Rattle.feed.specs.Events.{Tables}
 use Rattle.feed.specs.Reasons.{plainWhy}
-use Rattle.screen.specs.Plain.{plainGiven, plainOut, plainRow, plainSide}
+use Rattle.screen.specs.Plain.{plainGiven, plainOut, plainRow, plainSide, plainStrip, version}
 use Rattle.screen.specs.Calls.{Connects, Arrives, ArrivesCut, handsBack}
 use Rattle.screen.specs.declared.MmdhFeed.{MmdhFeed}
 use Rattle.screen.specs.declared.MmdhGiven.{MmdhGiven}
 use Rattle.screen.specs.declared.MmdhRow.{MmdhRow}
 use Rattle.screen.specs.declared.MmdhSide.{MmdhSide}
+use Rattle.screen.specs.declared.MmdhStrip.{MmdhStrip}
 
 -- mmdh_new
 abbrev pub NewSays : ℕ → MmdhGiven → Type 0
@@ -18,14 +21,14 @@ NewSays limit r = r ≡ plainGiven (newGiven limit)
 
 -- mmdh_connect: it is lent no words, so it is said with all of them
 abbrev pub ConnectSays : MmdhFeed → ℕ → ℕ → MmdhGiven → Type 0
-ConnectSays feed resuming time r = (t : List ℕ) → plainOut r t ≡ handsBack feed t (Connects resuming time)
+ConnectSays feed resuming time r = (x : Tables) → plainOut r x ≡ handsBack feed x (Connects resuming time)
 
 -- mmdh_arrive, and mmdh_arrive_cut
-abbrev pub ArriveSays : MmdhFeed → List ℕ → List ℕ → ℕ → MmdhGiven → List ℕ → Type 0
-ArriveSays feed books bytes time r after = plainOut r after ≡ handsBack feed books (Arrives bytes time)
+abbrev pub ArriveSays : MmdhFeed → Tables → List ℕ → ℕ → MmdhGiven → Tables → Type 0
+ArriveSays feed x bytes time r after = plainOut r after ≡ handsBack feed x (Arrives bytes time)
 
-abbrev pub CutSays : MmdhFeed → List ℕ → ℕ → ℕ → List ℕ → ℕ → MmdhGiven → List ℕ → Type 0
-CutSays feed books seq internal m time r after = plainOut r after ≡ handsBack feed books (ArrivesCut seq internal m time)
+abbrev pub CutSays : MmdhFeed → Tables → ℕ → ℕ → List ℕ → ℕ → MmdhGiven → Tables → Type 0
+CutSays feed x seq internal m time r after = plainOut r after ≡ handsBack feed x (ArrivesCut seq internal m time)
 
 -- mmdh_badge
 abbrev pub BadgeSays : ℕ → ℕ → ℕ → ℕ → ℕ → Type 0
@@ -42,3 +45,11 @@ RowSays t code side rank r = r ≡ plainRow (readRow code side rank t)
 -- mmdh_read_side
 abbrev pub SideSays : List ℕ → ℕ → ℕ → MmdhSide → Type 0
 SideSays t code side r = r ≡ plainSide (readSide code side t)
+
+-- mmdh_read_strip
+abbrev pub StripSays : List ℕ → ℕ → MmdhStrip → Type 0
+StripSays t code r = r ≡ plainStrip (readStrip code t)
+
+-- mmdh_version
+abbrev pub VersionSays : ℕ → Type 0
+VersionSays r = r ≡ version

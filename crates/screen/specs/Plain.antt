@@ -1,11 +1,12 @@
 -- Feeds, and what calls hand back, as the numbers of the C calls. Assumes nothing.
 use Prim.Native.Nat.{ℕ}
 use mathlib.Core.Bool.{Bool, cond, not}
-use mathlib.Core.List.{List}
 use lib.Dec.{eqb}
 use Rattle.books.specs.declared.RowRead.{RowRead}
 use Rattle.books.specs.declared.SideRead.{SideRead}
+use Rattle.strips.specs.declared.StripRead.{StripRead}
 use Rattle.feed.specs.Feeds.{phaseNo, phaseOf}
+use Rattle.feed.specs.Events.{Tables}
 use Rattle.feed.specs.Steps.{Outcome}
 use Rattle.feed.specs.declared.Link.{Link}
 use Rattle.feed.specs.declared.Link.the-variants.{Fresh, Resuming}
@@ -15,6 +16,7 @@ use Rattle.screen.specs.declared.MmdhFeed.{MmdhFeed}
 use Rattle.screen.specs.declared.MmdhGiven.{MmdhGiven}
 use Rattle.screen.specs.declared.MmdhRow.{MmdhRow}
 use Rattle.screen.specs.declared.MmdhSide.{MmdhSide}
+use Rattle.screen.specs.declared.MmdhStrip.{MmdhStrip}
 
 -- 0 is no, anything else yes; and back as 0 or 1
 unfoldable pub yes : ℕ → Bool
@@ -53,19 +55,38 @@ plainFeed f = record {
 abbrev pub plainGiven : Given → MmdhGiven
 plainGiven g = record { answer = g .answer; used = g .used; feed = plainFeed (g .feed) }
 
--- what a call hands back, with every word of the table after it
+-- what a call hands back, with every word of every table after it
 pub record PlainOut : Type 0 where
   pub given : MmdhGiven
-  pub books : List ℕ
+  pub tables : Tables
 
-abbrev pub plainOut : MmdhGiven → List ℕ → PlainOut
-plainOut g t = record { given = g; books = t }
+abbrev pub plainOut : MmdhGiven → Tables → PlainOut
+plainOut g x = record { given = g; tables = x }
 
 abbrev pub plainOutcome : Outcome → PlainOut
-plainOutcome o = record { given = plainGiven (o .given); books = o .tables .books }
+plainOutcome o = record { given = plainGiven (o .given); tables = o .tables }
 
 abbrev pub plainRow : RowRead → MmdhRow
 plainRow r = record { answer = r .answer; price = r .price; quantity = r .quantity; orders = r .orders }
 
 abbrev pub plainSide : SideRead → MmdhSide
 plainSide s = record { answer = s .answer; count = s .count; row = s .rows }
+
+abbrev pub plainStrip : StripRead → MmdhStrip
+plainStrip s = record {
+  answer = s .answer;
+  flags = s .flags;
+  nominal = s .nominal;
+  iep = s .iep;
+  iev = s .iev;
+  reference = s .reference;
+  lower = s .lower;
+  upper = s .upper;
+  direction = s .direction;
+  imbalance = s .imbalance;
+  closing = s .closing;
+}
+
+-- the request of document 02 that last changed the shape of a call or struct that was there before
+abbrev pub version : ℕ
+version = 2

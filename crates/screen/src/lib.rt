@@ -1,6 +1,7 @@
 // The library by plain C calls, for the screens: numbers, structs of numbers by value, and slices as pointer and length.
 ghost use mathlib.Core.Path.{_≡_};
-ghost use Rattle.screen.specs.Contracts.{NewSays, ConnectSays, ArriveSays, CutSays, BadgeSays, WhySays, RowSays, SideSays};
+ghost use Rattle.screen.specs.Contracts.{NewSays, ConnectSays, ArriveSays, CutSays, BadgeSays, WhySays, RowSays, SideSays, StripSays, VersionSays};
+ghost use Rattle.feed.specs.Steps.{lent};
 ghost use Rattle.screen.specs.Plain.{yes, bit, linkOf, feedOf, plainFeed, plainGiven};
 use books::Level;
 use books::RowRead;
@@ -45,6 +46,25 @@ pub struct MmdhSide {
     pub count: u64,
     pub row: [Level; DEPTH],
 }
+
+// What reading a strip gives: the answer, the flags, and the values, prices signed as sent, 0 where none has come.
+#[repr(C)]
+pub struct MmdhStrip {
+    pub answer: u64,
+    pub flags: u64,
+    pub nominal: i64,
+    pub iep: i64,
+    pub iev: u64,
+    pub reference: i64,
+    pub lower: i64,
+    pub upper: i64,
+    pub direction: u64,
+    pub imbalance: u64,
+    pub closing: i64,
+}
+
+// The request that last changed the shape of a call or struct that was there before.
+const VERSION: u64 = 2;
 
 // A number as yes or no.
 fn is_yes(n: u64) -> bool
@@ -146,28 +166,30 @@ pub extern "C" fn mmdh_connect(feed: MmdhFeed, resuming: u64, time: u64) -> Mmdh
 #[no_mangle]
 pub extern "C" fn mmdh_arrive(
     feed: MmdhFeed,
-    table: &mut [u64],
+    books: &mut [u64],
+    strips: &mut [u64],
     bytes: &[u8],
     time: u64,
 ) -> MmdhGiven
-    ensures { λ r. ⌜ ArriveSays feed (now (table .entry)) (now (bytes .entry)) time r (now (table .exit)) ⌝ }
+    ensures { λ r. ⌜ ArriveSays feed (lent (now (books .entry)) (now (strips .entry))) (now (bytes .entry)) time r (lent (now (books .exit)) (now (strips .exit))) ⌝ }
 {
-    plain_given(feed_of(feed).arrive(table, bytes, time))
+    plain_given(feed_of(feed).arrive(books, strips, bytes, time))
 }
 
 // The two numbers and a message already cut.
 #[no_mangle]
 pub extern "C" fn mmdh_arrive_cut(
     feed: MmdhFeed,
-    table: &mut [u64],
+    books: &mut [u64],
+    strips: &mut [u64],
     seq: u32,
     internal: u32,
     message: &[u8],
     time: u64,
 ) -> MmdhGiven
-    ensures { λ r. ⌜ CutSays feed (now (table .entry)) seq internal (now (message .entry)) time r (now (table .exit)) ⌝ }
+    ensures { λ r. ⌜ CutSays feed (lent (now (books .entry)) (now (strips .entry))) seq internal (now (message .entry)) time r (lent (now (books .exit)) (now (strips .exit))) ⌝ }
 {
-    plain_given(feed_of(feed).arrive_cut(table, seq, internal, message, time))
+    plain_given(feed_of(feed).arrive_cut(books, strips, seq, internal, message, time))
 }
 
 // A row by code, side and rank.
@@ -196,6 +218,35 @@ pub extern "C" fn mmdh_read_side(table: &[u64], code: u64, side: u64) -> MmdhSid
         count: read.count,
         row,
     }
+}
+
+// A strip by its code.
+#[no_mangle]
+pub extern "C" fn mmdh_read_strip(strips: &[u64], code: u64) -> MmdhStrip
+    ensures { λ r. ⌜ StripSays (now (strips .entry)) code r ⌝ }
+{
+    let strip = strips::read_strip(strips, code);
+    MmdhStrip {
+        answer: strip.answer,
+        flags: strip.flags,
+        nominal: strip.nominal,
+        iep: strip.iep,
+        iev: strip.iev,
+        reference: strip.reference,
+        lower: strip.lower,
+        upper: strip.upper,
+        direction: strip.direction,
+        imbalance: strip.imbalance,
+        closing: strip.closing,
+    }
+}
+
+// The shapes of these calls, by a number that a caller compares with the one it was built with.
+#[no_mangle]
+pub extern "C" fn mmdh_version() -> u64
+    ensures { λ r. ⌜ VersionSays r ⌝ }
+{
+    VERSION
 }
 
 // The badge at a time: 1 green, 2 filling, 0 stale.

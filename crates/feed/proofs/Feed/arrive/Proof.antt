@@ -23,4 +23,5 @@ arrive-spec =
     (λ c κs. search rows)
     (λ c κs. search rows)
     (λ c. search rows)
+    (λ c. search rows)
     (λ c. search rows))

@@ -24,4 +24,5 @@ arrive-cut-spec =
     (λ c. search rows)
     (λ c. search rows)
     (λ c. search rows)
+    (λ c. search rows)
     (λ c. search rows))
