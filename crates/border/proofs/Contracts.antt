@@ -55,11 +55,11 @@ pub connect-one : (κs : _) (a : _) (r r′ : _) (x x′ : _) → connect.Learnt
 connect-one κs a r r′ x x′ p q = ap (λ (o : PlainOut). o .given) (p (lent [] []) ∙ sym (q (lent [] [])))
 
 pub arrive-one : (κs : _) (a : _) (r r′ : _) (x x′ : _) → arrive.Learnt κs a r x → arrive.Learnt κs a r′ x′
-    → (r ≡ r′) × (now (x .1 .0) ≡ now (x′ .1 .0)) × (now (x .2 .0) ≡ now (x′ .2 .0))
+    → (r ≡ r′) × (now (x .1 .0) ≡ now (x′ .1 .0)) × (now (x .1 .1 .0) ≡ now (x′ .1 .1 .0))
 arrive-one κs a r r′ x x′ p q = (ap (λ (o : PlainOut). o .given) (p ∙ sym q), ap (λ (o : PlainOut). o .tables .books) (p ∙ sym q), ap (λ (o : PlainOut). o .tables .strips) (p ∙ sym q))
 
 pub arrive-cut-one : (κs : _) (a : _) (r r′ : _) (x x′ : _) → arrive-cut.Learnt κs a r x → arrive-cut.Learnt κs a r′ x′
-    → (r ≡ r′) × (now (x .1 .0) ≡ now (x′ .1 .0)) × (now (x .2 .0) ≡ now (x′ .2 .0))
+    → (r ≡ r′) × (now (x .1 .0) ≡ now (x′ .1 .0)) × (now (x .1 .1 .0) ≡ now (x′ .1 .1 .0))
 arrive-cut-one κs a r r′ x x′ p q = (ap (λ (o : PlainOut). o .given) (p ∙ sym q), ap (λ (o : PlainOut). o .tables .books) (p ∙ sym q), ap (λ (o : PlainOut). o .tables .strips) (p ∙ sym q))
 
 pub badge-one : (κs : _) (a : _) (r r′ : _) (x x′ : _) → badge.Learnt κs a r x → badge.Learnt κs a r′ x′ → r ≡ r′

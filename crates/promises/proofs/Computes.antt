@@ -2,6 +2,7 @@
 use Prim.Native.Nat.{ℕ}
 use mathlib.Core.Option.{bind}
 use Rattle.ground.specs.Choice as ground-Choice
+use Rattle.wire.specs.Codes as wire-Codes
 use Rattle.wire.specs.Number as wire-Number
 use Rattle.wire.specs.Units as wire-Units
 use Rattle.slots.specs.Code.Turns as slots-Code-Turns
@@ -16,6 +17,11 @@ use Rattle.ladder.specs.Words as ladder-Words
 use Rattle.books.specs.Code.Rows as books-Code-Rows
 use Rattle.books.specs.Reading as books-Reading
 use Rattle.books.specs.Table as books-Table
+use Rattle.strips.specs.Code.Shapes as strips-Code-Shapes
+use Rattle.strips.specs.Forms as strips-Forms
+use Rattle.strips.specs.Reading as strips-Reading
+use Rattle.strips.specs.Table as strips-Table
+use Rattle.strips.specs.Words as strips-Words
 use Rattle.feed.specs.Answers as feed-Answers
 use Rattle.feed.specs.Code.Judging as feed-Code-Judging
 use Rattle.feed.specs.Events as feed-Events
@@ -51,6 +57,10 @@ unfoldable ground-choice : ℕ
 unfolding ground-Choice.oneOf ground-Choice.pick ground-Choice.first ground-Choice.all
 ground-choice = 0
 
+unfoldable wire-codes : ℕ
+unfolding wire-Codes.listedCode
+wire-codes = 0
+
 unfoldable wire-number : ℕ
 unfolding wire-Number.field wire-Number.biased
 wire-number = 0
@@ -80,7 +90,7 @@ unfolding ladder-Code-Loading.inOrder ladder-Code-Loading.usedOf ladder-Code-Loa
 ladder-code-loading = 0
 
 unfoldable ladder-message : ℕ
-unfolding ladder-Message.entriesFrom ladder-Message.bookSized ladder-Message.listedSide ladder-Message.listedRank ladder-Message.listedCode ladder-Message.listedEntry ladder-Message.listedBook
+unfolding ladder-Message.entriesFrom ladder-Message.bookSized ladder-Message.listedSide ladder-Message.listedRank ladder-Message.listedEntry ladder-Message.listedBook
 ladder-message = 0
 
 unfoldable ladder-sides : ℕ
@@ -107,8 +117,28 @@ unfoldable books-table : ℕ
 unfolding books-Table.unsound books-Table.noSlot books-Table.misfits books-Table.bookAnswer books-Table.booksAfter
 books-table = 0
 
+unfoldable strips-code-shapes : ℕ
+unfolding strips-Code-Shapes.shapeOf strips-Code-Shapes.fieldOf strips-Code-Shapes.fieldsFrom strips-Code-Shapes.widthOf strips-Code-Shapes.stripOfBlock
+strips-code-shapes = 0
+
+unfoldable strips-forms : ℕ
+unfolding strips-Forms.formOf strips-Forms.isStrip strips-Forms.stripSized strips-Forms.fieldsOf strips-Forms.valueOf strips-Forms.listedAs strips-Forms.listedStrip
+strips-forms = 0
+
+unfoldable strips-reading : ℕ
+unfolding strips-Reading.noStrip strips-Reading.readAnswer strips-Reading.priceShown strips-Reading.readStrip
+strips-reading = 0
+
+unfoldable strips-table : ℕ
+unfolding strips-Table.unsound strips-Table.noSlot strips-Table.stripsAfter
+strips-table = 0
+
+unfoldable strips-words : ℕ
+unfolding strips-Words.wordsFrom strips-Words.stripOf strips-Words.wordsOf strips-Words.come strips-Words.legal strips-Words.soundFrom strips-Words.soundStrip strips-Words.sound strips-Words.stored strips-Words.storedAll strips-Words.stripAfter
+strips-words = 0
+
 unfoldable feed-answers : ℕ
-unfolding feed-Answers.number feed-Answers.arrives feed-Answers.lacksNeed feed-Answers.isMore feed-Answers.isNext feed-Answers.allowed feed-Answers.seen feed-Answers.ofBook feed-Answers.passed feed-Answers.lineTests feed-Answers.tableTests feed-Answers.tests
+unfolding feed-Answers.number feed-Answers.arrives feed-Answers.lacksNeed feed-Answers.isMore feed-Answers.isNext feed-Answers.allowed feed-Answers.seen feed-Answers.unsoundFor feed-Answers.noSlotFor feed-Answers.misfitsFor feed-Answers.passed feed-Answers.lineTests feed-Answers.tableTests feed-Answers.tests
 feed-answers = 0
 
 unfoldable feed-code-judging : ℕ
@@ -124,7 +154,7 @@ unfolding feed-Feeds.is feed-Feeds.deaf feed-Feeds.listedLimit feed-Feeds.newGiv
 feed-feeds = 0
 
 unfoldable feed-messages : ℕ
-unfolding feed-Messages.datumOf feed-Messages.kindOf feed-Messages.onMarket feed-Messages.market feed-Messages.book feed-Messages.sized feed-Messages.wrongSize feed-Messages.statusOf feed-Messages.listedStatus feed-Messages.listed
+unfolding feed-Messages.datumOf feed-Messages.kindOf feed-Messages.onMarket feed-Messages.market feed-Messages.tabled feed-Messages.sized feed-Messages.wrongSize feed-Messages.statusOf feed-Messages.listedStatus feed-Messages.listed
 feed-messages = 0
 
 unfoldable feed-program : ℕ
@@ -144,7 +174,7 @@ unfolding promises-Answering.oneCall promises-Answering.fed promises-Answering.l
 promises-answering = 0
 
 unfoldable promises-build : ℕ
-unfolding promises-Build.bytes promises-Build.joined promises-Build.header promises-Build.unit promises-Build.heartbeat promises-Build.message promises-Build.sendKey promises-Build.logon promises-Build.logout promises-Build.refresh promises-Build.complete promises-Build.entry promises-Build.bookMessage promises-Build.fill promises-Build.row promises-Build.block promises-Build.feed promises-Build.state promises-Build.start promises-Build.arrives promises-Build.gets promises-Build.ends promises-Build.case promises-Build.logsOn
+unfolding promises-Build.bytes promises-Build.joined promises-Build.header promises-Build.unit promises-Build.heartbeat promises-Build.message promises-Build.sendKey promises-Build.logon promises-Build.logout promises-Build.refresh promises-Build.complete promises-Build.entry promises-Build.bookMessage promises-Build.fill promises-Build.row promises-Build.block promises-Build.feed promises-Build.both promises-Build.state promises-Build.start promises-Build.arrives promises-Build.gets promises-Build.endsBoth promises-Build.ends promises-Build.case promises-Build.logsOn
 promises-build = 0
 
 unfoldable promises-checks : ℕ
@@ -184,7 +214,7 @@ unfolding promises-Ledger.enterStatus promises-Ledger.enterTaken promises-Ledger
 promises-ledger = 0
 
 unfoldable promises-mornings : ℕ
-unfolding promises-Mornings.twoBids promises-Mornings.better promises-Mornings.tenth promises-Mornings.logsOn promises-Mornings.day promises-Mornings.refilled promises-Mornings.empties promises-Mornings.allows promises-Mornings.forbids promises-Mornings.talks promises-Mornings.keeps promises-Mornings.resumed promises-Mornings.ledgers promises-Mornings.sameTimes promises-Mornings.recounts promises-Mornings.greenFrom promises-Mornings.dark promises-Mornings.threeBids promises-Mornings.oneBid promises-Mornings.freeSlot promises-Mornings.logonThen promises-Mornings.connectsAgain promises-Mornings.ofCode promises-Mornings.twoCodes promises-Mornings.oneEmptied promises-Mornings.tales promises-Mornings.endings
+unfolding promises-Mornings.twoBids promises-Mornings.better promises-Mornings.tenth promises-Mornings.logsOn promises-Mornings.day promises-Mornings.refilled promises-Mornings.empties promises-Mornings.oneSlot promises-Mornings.wordsOfOne promises-Mornings.wordsOfTwo promises-Mornings.allows promises-Mornings.forbids promises-Mornings.talks promises-Mornings.keeps promises-Mornings.resumed promises-Mornings.ledgers promises-Mornings.sameTimes promises-Mornings.recounts promises-Mornings.greenFrom promises-Mornings.dark promises-Mornings.threeBids promises-Mornings.oneBid promises-Mornings.freeSlot promises-Mornings.logonThen promises-Mornings.connectsAgain promises-Mornings.ofCode promises-Mornings.twoCodes promises-Mornings.oneEmptied promises-Mornings.tales promises-Mornings.endings
 promises-mornings = 0
 
 unfoldable promises-phases : ℕ
@@ -200,7 +230,7 @@ unfolding promises-Refusals.answersTo promises-Refusals.feedRefused
 promises-refusals = 0
 
 unfoldable promises-runs : ℕ
-unfolding promises-Runs.after promises-Runs.run promises-Runs.trace promises-Runs.noteStatus promises-Runs.noteTaken promises-Runs.noteNews promises-Runs.note promises-Runs.recall promises-Runs.green promises-Runs.perform promises-Runs.replay promises-Runs.performOn promises-Runs.replayOn
+unfolding promises-Runs.after promises-Runs.run promises-Runs.trace promises-Runs.noteStatus promises-Runs.noteTaken promises-Runs.noteNews promises-Runs.note promises-Runs.recall promises-Runs.green promises-Runs.perform promises-Runs.replay promises-Runs.performOn promises-Runs.replayOn promises-Runs.performStrip promises-Runs.replayStrip
 promises-runs = 0
 
 unfoldable promises-section6 : ℕ
@@ -228,5 +258,5 @@ unfolding promises-Widths.widths
 promises-widths = 0
 
 unfoldable pub computes : ℕ
-unfolding bind ground-choice wire-number wire-units slots-code-turns slots-layout slots-slots ladder-code-arrays ladder-code-loading ladder-message ladder-sides ladder-walk ladder-words books-code-rows books-reading books-table feed-answers feed-code-judging feed-events feed-feeds feed-messages feed-program feed-reasons feed-steps promises-answering promises-build promises-checks promises-decisions promises-demands promises-desk promises-emptied promises-entries promises-goodmorning promises-leaves promises-ledger promises-mornings promises-phases promises-pieces promises-refusals promises-runs promises-section6 promises-sizes promises-statuses promises-tables promises-traps promises-widths
+unfolding bind ground-choice wire-codes wire-number wire-units slots-code-turns slots-layout slots-slots ladder-code-arrays ladder-code-loading ladder-message ladder-sides ladder-walk ladder-words books-code-rows books-reading books-table strips-code-shapes strips-forms strips-reading strips-table strips-words feed-answers feed-code-judging feed-events feed-feeds feed-messages feed-program feed-reasons feed-steps promises-answering promises-build promises-checks promises-decisions promises-demands promises-desk promises-emptied promises-entries promises-goodmorning promises-leaves promises-ledger promises-mornings promises-phases promises-pieces promises-refusals promises-runs promises-section6 promises-sizes promises-statuses promises-tables promises-traps promises-widths
 computes = 0

@@ -5,11 +5,10 @@ use mathlib.Core.Bool.{Bool, true, false, _&&_, true≢false}
 use mathlib.Core.List.{List, [], _∷_, _++_}
 use lib.Dec.{T}
 use Rattle.ground.proofs.Bools.{split}
-use Rattle.books.specs.Table.{noSlot, misfits}
-use Rattle.feed.specs.Messages.{kind, onMarket, market, book, statusOf, logonStatus}
+use Rattle.feed.specs.Messages.{kind, market, statusOf, logonStatus}
 use Rattle.feed.specs.Feeds.{is, internalIs}
 use Rattle.feed.specs.Events.{Tables, State, News, Linked, More, Heartbeat, Message, news, timeOf}
-use Rattle.feed.specs.Answers.{ofBook, reply}
+use Rattle.feed.specs.Answers.{noSlotFor, misfitsFor, reply}
 use Rattle.feed.specs.declared.Answer.{Answer}
 use Rattle.feed.specs.declared.Answer.the-variants.{Keep, Lose, Spoil, Skip, Take}
 use Rattle.feed.specs.Steps.{loggedOn, does, counted, taken, act, handed, outcome}
@@ -18,11 +17,12 @@ use Rattle.feed.specs.declared.Phase.the-variants.{Idle, WaitKey, WaitLogon, Re
 use Rattle.feed.specs.declared.Kind.{Kind}
 use Rattle.feed.specs.declared.Kind.the-variants.{Session, Market}
 use Rattle.feed.specs.declared.Session.the-variants.{SendKey, Logon, Logout, Refresh, Complete, Request}
-use Rattle.feed.specs.declared.Datum.the-variants.{Book, Other}
+use Rattle.feed.specs.declared.Datum.{Datum}
+use Rattle.feed.specs.declared.Datum.the-variants.{Book, Strip, Other}
 use Rattle.feed.specs.declared.Status.{Status}
 use Rattle.feed.specs.declared.Status.the-variants.{Opens, Refills, Stays, Closes, Unlisted}
 use Rattle.feed.specs.declared.Feed.{Feed}
-use Rattle.promises.specs.Runs.{zeroed, start, run, Deed, Took, History, noHistory, noteStatus, noteTaken, perform, replay}
+use Rattle.promises.specs.Runs.{Sizes, zeroed, start, run, Deed, Took, History, noHistory, noteStatus, noteTaken, perform, replay}
 use Rattle.promises.specs.Decisions as D
 use Rattle.promises.specs.Decisions.{fitsDeed, fitting}
 use Rattle.promises.proofs.Steps.{Any, any, Keeps, on-run}
@@ -138,11 +138,11 @@ fits-more (e ∷ ds) d x h f = go (fitsDeed e x) h (λ t. fits-more ds d (perfor
     go true h k = k h
     go false h k = h
 
-record Fits (n : ℕ) (s : State) (h : History) : Type 0 where
+record Fits (n : Sizes) (s : State) (h : History) : Type 0 where
   base : R.Inv n s h
   fits : T (fitting (h .deeds) (zeroed n))
 
-fits-status : (n : ℕ) (st : Status) (h : History) → T (fitting (h .deeds) (zeroed n)) → T (fitting (noteStatus st h .deeds) (zeroed n))
+fits-status : (n : Sizes) (st : Status) (h : History) → T (fitting (h .deeds) (zeroed n)) → T (fitting (noteStatus st h .deeds) (zeroed n))
 unfolding noteStatus fitting
 fits-status n Opens h f = split (λ (ds : List Deed). T (fitting ds (zeroed n))) (h .fresh) [] (h .deeds) (λ e. tt) (λ e. f)
 fits-status n Refills h f = tt
@@ -150,20 +150,28 @@ fits-status n Stays h f = f
 fits-status n Closes h f = f
 fits-status n Unlisted h f = f
 
-fits-kind : (n : ℕ) (k : Kind) (time : ℕ) (m : List ℕ) (s : State) (h : History) → ofBook k (noSlot m (s .tables .books)) ≡ false
-    → ofBook k (misfits time m (s .tables .books)) ≡ false → s .tables ≡ replay (h .deeds) (zeroed n) → T (fitting (h .deeds) (zeroed n))
+-- a deed more
+fits-deed : (n : Sizes) (d : Datum) (time : ℕ) (m : List ℕ) (s : State) (h : History) → noSlotFor (Market d) m (s .tables) ≡ false
+    → misfitsFor (Market d) time m (s .tables) ≡ false → s .tables ≡ replay (h .deeds) (zeroed n) → T (fitting (h .deeds) (zeroed n))
+    → T (fitting (h .deeds ++ (Took d time m ∷ [])) (zeroed n))
+unfolding fitsDeed
+fits-deed n d time m s h a b t f = fits-more (h .deeds) (Took d time m) (zeroed n) f (subst (λ (x : Tables). T (fitsDeed (Took d time m) x)) t (rw (a, b) tt))
+
+fits-kind : (n : Sizes) (k : Kind) (time : ℕ) (m : List ℕ) (s : State) (h : History) → noSlotFor k m (s .tables) ≡ false
+    → misfitsFor k time m (s .tables) ≡ false → s .tables ≡ replay (h .deeds) (zeroed n) → T (fitting (h .deeds) (zeroed n))
     → T (fitting (noteTaken k time m h .deeds) (zeroed n))
-unfolding noteTaken ofBook onMarket book fitsDeed
+unfolding noteTaken
 fits-kind n (Session SendKey) time m s h a b t f = f
 fits-kind n (Session Logon) time m s h a b t f = fits-status n (statusOf (logonStatus m)) h f
 fits-kind n (Session Logout) time m s h a b t f = f
 fits-kind n (Session Refresh) time m s h a b t f = f
 fits-kind n (Session Complete) time m s h a b t f = f
 fits-kind n (Session Request) time m s h a b t f = f
-fits-kind n (Market Book) time m s h a b t f = fits-more (h .deeds) (Took time m) (zeroed n) f (subst (λ (x : Tables). T (fitsDeed (Took time m) x)) t (rw (a, b) tt))
+fits-kind n (Market Book) time m s h a b t f = fits-deed n Book time m s h a b t f
+fits-kind n (Market Strip) time m s h a b t f = fits-deed n Strip time m s h a b t f
 fits-kind n (Market Other) time m s h a b t f = f
 
-fits-keeps : (n : ℕ) → Keeps Any (Fits n)
+fits-keeps : (n : Sizes) → Keeps Any (Fits n)
 fits-keeps n =
     let K = R.keeps n in
     record {

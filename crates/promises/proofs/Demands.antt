@@ -15,7 +15,7 @@ use Rattle.slots.proofs.Steps as steps
 use Rattle.slots.proofs.Values as values
 use Rattle.slots.specs.declared.Slot.the-variants.{Held}
 use Rattle.wire.specs.Codes.{securityCode, listedCode}
-use Rattle.ladder.specs.Message.{listedSide, listedRank, listedBook}
+use Rattle.ladder.specs.Message.{hasEntries, listedSide, listedRank, listedBook}
 use Rattle.ladder.specs.Words.{sound as soundWords}
 use Rattle.books.specs.Table.{placeIn, block, bookIn, unsound, noSlot, misfits, booksAfter}
 use Rattle.books.proofs.Frames.{no-misfit, books-own, books-slots, books-other, books-length, books-tail, book-sound-in}
@@ -257,24 +257,23 @@ looksEmpty s e m t none side rank a b =
     ap (readRow (securityCode m) side rank) (table-after s e m t)
     ∙ looks-empty (timeOf e) m (s .tables .books) none side rank (join _ (listedRank rank) (join (listedCode (securityCode m)) (listedSide side) code a) b)
 
+empty-slot : (k : Kind) (m : List ℕ) (x : Tables) → k ≡ Market BookMessage → hasEntries m ≡ false → noSlotFor k m x ≡ false
+unfolding noSlotFor noSlot
+empty-slot k m x e none = rw (e, none)
+
+empty-fit : (k : Kind) (time : ℕ) (m : List ℕ) (x : Tables) → k ≡ Market BookMessage → hasEntries m ≡ false → misfitsFor k time m x ≡ false
+unfolding misfitsFor
+empty-fit k time m x e none = rw e (no-misfit time m (x .books) none)
+
 pub emptyFits : D.EmptyFits
 unfolding outcome handed tests lineTests tableTests all onMessage arrives lacksNeed isMore number
 emptyFits s e seq internal m b k none =
     let ts : List (Bool × Answer) = tests (s .feed) (s .tables) (timeOf e) (Message seq internal m) in
-    let room : noSlotFor (kind m) m (s .tables) ≡ false = no-slot-for (kind m) k in
-    let fit : misfitsFor (kind m) (timeOf e) m (s .tables) ≡ false = no-misfit-for (kind m) k in (
+    let room : noSlotFor (kind m) m (s .tables) ≡ false = empty-slot (kind m) m (s .tables) k none in
+    let fit : misfitsFor (kind m) (timeOf e) m (s .tables) ≡ false = empty-fit (kind m) (timeOf e) m (s .tables) k none in (
       λ q. subst (λ (k : ℕ). T (not (eqb k 17))) q (rw b (first-may (isNot 17) ts (Take 0) (rw room tt) tt)),
       λ q. subst (λ (k : ℕ). T (not (eqb k 16))) q (rw b (first-may (isNot 16) ts (Take 0) (rw fit tt) tt)),
     )
-
-  where
-    no-slot-for : (j : Kind) → j ≡ Market BookMessage → noSlotFor j m (s .tables) ≡ false
-    unfolding noSlotFor noSlot
-    no-slot-for j h = rw (h, none)
-
-    no-misfit-for : (j : Kind) → j ≡ Market BookMessage → misfitsFor j (timeOf e) m (s .tables) ≡ false
-    unfolding misfitsFor
-    no-misfit-for j h = rw h (no-misfit (timeOf e) m (s .tables .books) none)
 
 -- DEMAND 3
 pub replayed : D.Replayed

@@ -12,7 +12,7 @@ use Rattle.slots.proofs.Steps as steps
 use Rattle.strips.specs.Words.{emptyStrip}
 use Rattle.strips.specs.Table as strip
 use Rattle.strips.specs.Table.{strips, stripIn, stepOf, stripsAfter}
-use Rattle.strips.specs.declared.Strip.{Strip}
+use Rattle.strips.specs.declared.Strip.{Strip as StripOf}
 use Rattle.strips.proofs.Lawful.{lawful}
 use Rattle.strips.proofs.Keeps.{step-fits, step-keeps, step-modest}
 use Rattle.feed.specs.Messages.{kind, listed, statusOf, logonStatus}
@@ -36,7 +36,7 @@ AllSound t = values.AllSound strips t
 abbrev Stripped : List ℕ → List Deed → Type 0
 Stripped t ds = (c : ℕ) → (c ≡ 0 → ⊥) → stripIn c t ≡ replayStrip c ds emptyStrip
 
-replayStrip-snoc : (c : ℕ) (ds : List Deed) (d : Deed) (s : Strip) → replayStrip c (ds ++ (d ∷ [])) s ≡ performStrip c d (replayStrip c ds s)
+replayStrip-snoc : (c : ℕ) (ds : List Deed) (d : Deed) (s : StripOf) → replayStrip c (ds ++ (d ∷ [])) s ≡ performStrip c d (replayStrip c ds s)
 unfolding replayStrip
 replayStrip-snoc c [] d s = refl
 replayStrip-snoc c (e ∷ ds) d s = replayStrip-snoc c ds d (performStrip c e s)

@@ -77,8 +77,12 @@ unfoldable pub feed : Phase → ℕ → ℕ → ℕ → Bool → Bool → Feed
 feed p next internal heard whole fresh =
     record { phase = p; next = next; internal = internal; heard = heard; limit = 1000; whole = whole; fresh = fresh }
 
+-- a feed with books and strips; with books alone, no word lent for strips
+unfoldable pub both : Feed → List ℕ → List ℕ → State
+both f words strips = record { feed = f; tables = record { books = words; strips = strips } }
+
 unfoldable pub state : Feed → List ℕ → State
-state f words = record { feed = f; tables = record { books = words } }
+state f words = both f words []
 
 -- a new feed with limit 1,000 and n zero words
 unfoldable pub start : ℕ → State
@@ -92,8 +96,11 @@ arrives s time answer = record { event = Arrive s time; answer = answer; used = 
 unfoldable pub gets : Event → ℕ → Call
 gets e answer = record { event = e; answer = answer; used = 0 }
 
+unfoldable pub endsBoth : Feed → List ℕ → List ℕ → List (ℕ × ℕ) → End
+endsBoth f words strips badges = record { feed = f; words = words; strips = strips; badges = badges }
+
 unfoldable pub ends : Feed → List ℕ → List (ℕ × ℕ) → End
-ends f words badges = record { feed = f; words = words; badges = badges }
+ends f words badges = endsBoth f words [] badges
 
 unfoldable pub case : String → State → List Call → End → Check
 case name s calls e = record { name = name; holds = runs s calls e }

@@ -46,10 +46,11 @@ pub record Call : Type 0 where
   pub answer : ℕ
   pub used : ℕ
 
--- where a run must end: the feed, every word of the table, and the badge's number at some times
+-- where a run must end: the feed, every word of the books and of the strips, and the badge's number at some times
 pub record End : Type 0 where
   pub feed : Feed
   pub words : List ℕ
+  pub strips : List ℕ
   pub badges : List (ℕ × ℕ)
 
 unfoldable pub sameBadges : Feed → List (ℕ × ℕ) → Bool
@@ -57,7 +58,7 @@ sameBadges f [] = true
 sameBadges f (b ∷ bs) = eqb (badgeNo (badgeOf f (b .0))) (b .1) && sameBadges f bs
 
 unfoldable pub sameEnd : State → End → Bool
-sameEnd s e = sameFeed (s .feed) (e .feed) && sameWords (s .tables .books) (e .words) && sameBadges (s .feed) (e .badges)
+sameEnd s e = sameFeed (s .feed) (e .feed) && sameWords (s .tables .books) (e .words) && sameWords (s .tables .strips) (e .strips) && sameBadges (s .feed) (e .badges)
 
 -- calls one after the other from a state, each answered as told, and the end as told
 unfoldable pub runs : State → List Call → End → Bool

@@ -13,7 +13,7 @@ use Rattle.feed.specs.declared.Link.{Link}
 use Rattle.feed.specs.declared.Link.the-variants.{Fresh, Resuming}
 use Rattle.promises.specs.Checks.{Check, sameWords}
 use Rattle.promises.specs.Build.{unit, heartbeat, message, sendKey, logon, logout, refresh, complete, entry, bookMessage, row, block}
-use Rattle.promises.specs.Runs.{zeroed, start, History, endOf, tale, isGreen, green, replay, replayOn}
+use Rattle.promises.specs.Runs.{Sizes, zeroed, start, History, endOf, tale, isGreen, green, replay, replayOn}
 use Rattle.promises.specs.Ledger.{Ledger, ledger}
 use Rattle.promises.specs.Demands.{handsBytes}
 use Rattle.promises.specs.GoodMorning.{Stage, Fills, Open, on, begins, talk, fairly}
@@ -50,12 +50,22 @@ unfoldable pub empties : Event → List Event
 empties e =
     Arrive (unit 3 7 (twoBids 700)) 6000 ∷ Arrive (unit 4 8 (bookMessage 700 [])) 6000 ∷ Arrive (unit 5 9 (bookMessage 701 [])) 6000 ∷ e ∷ []
 
--- allowed with a limit of 1,000 and one slot after a connect at 5,000, all of it bytes, and where it ends
+-- one slot of each table, and the words of one and of two
+unfoldable pub oneSlot : Sizes
+oneSlot = record { books = 1; strips = 1 }
+
+unfoldable pub wordsOfOne : Sizes
+wordsOfOne = record { books = 64; strips = 12 }
+
+unfoldable pub wordsOfTwo : Sizes
+wordsOfTwo = record { books = 128; strips = 24 }
+
+-- allowed with a limit of 1,000 and one slot of each table after a connect at 5,000, all of it bytes, and where it ends
 unfoldable pub allows : String → List Event → Stage → Check
-allows name es g = record { name = name; holds = fairly 1000 1 (begins 5000) es && all handsBytes es && on (talk (begins 5000) es .stage) g }
+allows name es g = record { name = name; holds = fairly 1000 oneSlot (begins 5000) es && all handsBytes es && on (talk (begins 5000) es .stage) g }
 
 unfoldable pub forbids : String → List Event → Check
-forbids name es = record { name = name; holds = not (fairly 1000 1 (begins 5000) es) }
+forbids name es = record { name = name; holds = not (fairly 1000 oneSlot (begins 5000) es) }
 
 unfoldable pub talks : List Check
 talks =
@@ -82,7 +92,7 @@ talks =
 -- a run with a limit of 1,000 and one slot: its ledger
 unfoldable pub keeps : String → List Event → List ℕ → List ℕ → ℕ → List ℕ → Bool → Check
 keeps name es came met base numbers whole =
-    let l : Ledger = ledger (start 1000 64) es in
+    let l : Ledger = ledger (start 1000 wordsOfOne) es in
     record {
       name = name;
       holds = sameWords (l .came) came && sameWords (l .met) met && eqb (l .base) base && sameWords (l .numbers) numbers && Bool·beq (l .whole) whole;
@@ -114,11 +124,11 @@ sameTimes s h (p ∷ ps) = Bool·beq (green h 1000 (p .0)) (p .1) && Bool·beq (
 
 unfoldable pub recounts : String → List Event → List (ℕ × Bool) → Bool → List ℕ → Check
 recounts name es times fresh words =
-    let h : History = tale 1000 128 es in
-    let s : State = endOf 1000 128 es in
+    let h : History = tale 1000 wordsOfTwo es in
+    let s : State = endOf 1000 wordsOfTwo es in
     record {
       name = name;
-      holds = sameTimes s h times && Bool·beq (h .fresh) fresh && sameWords (replay (h .deeds) (zeroed 128) .books) words && sameWords (s .tables .books) words;
+      holds = sameTimes s h times && Bool·beq (h .fresh) fresh && sameWords (replay (h .deeds) (zeroed wordsOfTwo) .books) words && sameWords (s .tables .books) words;
     }
 
 -- green from a time to the limit after it, and not before nor after; never
@@ -148,7 +158,7 @@ connectsAgain link = Connect link 8000 ∷ Arrive (unit 1 0 sendKey) 8000 ∷ Ar
 
 -- the book of a code, by the replay of its messages alone
 unfoldable pub ofCode : String → List Event → ℕ → List ℕ → Check
-ofCode name es c words = record { name = name; holds = sameWords (wordsOf c (replayOn c (tale 1000 128 es .deeds) emptyBook)) words }
+ofCode name es c words = record { name = name; holds = sameWords (wordsOf c (replayOn c (tale 1000 wordsOfTwo es .deeds) emptyBook)) words }
 
 unfoldable pub twoCodes : List Event
 twoCodes = logonThen 0 (Arrive (unit 3 7 (twoBids 701)) 6000 ∷ Arrive (unit 4 8 (better 700)) 6000 ∷ Arrive (unit 5 9 (better 701)) 6000 ∷ [])
