@@ -49,6 +49,7 @@ use Rattle.promises.specs.Runs as promises-Runs
 use Rattle.promises.specs.Section6 as promises-Section6
 use Rattle.promises.specs.Sizes as promises-Sizes
 use Rattle.promises.specs.Statuses as promises-Statuses
+use Rattle.promises.specs.Strips as promises-Strips
 use Rattle.promises.specs.Tables as promises-Tables
 use Rattle.promises.specs.Traps as promises-Traps
 use Rattle.promises.specs.Widths as promises-Widths
@@ -245,6 +246,10 @@ unfoldable promises-statuses : ℕ
 unfolding promises-Statuses.freshly promises-Statuses.resumed promises-Statuses.wiped promises-Statuses.logons promises-Statuses.others promises-Statuses.answersBelow promises-Statuses.listedBelow promises-Statuses.all256 promises-Statuses.allStatuses
 promises-statuses = 0
 
+unfoldable promises-strips : ℕ
+unfolding promises-Strips.nominal promises-Strips.iep promises-Strips.reference promises-Strips.imbalance promises-Strips.closing promises-Strips.word promises-Strips.strip promises-Strips.free promises-Strips.whole promises-Strips.otherStrip promises-Strips.onBoth promises-Strips.makes promises-Strips.refuses promises-Strips.firsts promises-Strips.extremes promises-Strips.seconds promises-Strips.unlisted promises-Strips.unsound promises-Strips.uncome promises-Strips.sounds promises-Strips.slots promises-Strips.counts promises-Strips.wrongly promises-Strips.sizes promises-Strips.around promises-Strips.apart promises-Strips.crossed promises-Strips.clears promises-Strips.days promises-Strips.sameStrip promises-Strips.reads promises-Strips.shows promises-Strips.reading
+promises-strips = 0
+
 unfoldable promises-tables : ℕ
 unfolding promises-Tables.on promises-Tables.refused promises-Tables.firstBid promises-Tables.opened promises-Tables.wipes promises-Tables.other promises-Tables.lengths promises-Tables.slots promises-Tables.three promises-Tables.tenOffers promises-Tables.sounds promises-Tables.row-is promises-Tables.no-row promises-Tables.level promises-Tables.tenBids promises-Tables.tenLevels promises-Tables.side-is promises-Tables.rows
 promises-tables = 0
@@ -258,5 +263,5 @@ unfolding promises-Widths.widths
 promises-widths = 0
 
 unfoldable pub computes : ℕ
-unfolding bind ground-choice wire-codes wire-number wire-units slots-code-turns slots-layout slots-slots ladder-code-arrays ladder-code-loading ladder-message ladder-sides ladder-walk ladder-words books-code-rows books-reading books-table strips-code-shapes strips-forms strips-reading strips-table strips-words feed-answers feed-code-judging feed-events feed-feeds feed-messages feed-program feed-reasons feed-steps promises-answering promises-build promises-checks promises-decisions promises-demands promises-desk promises-emptied promises-entries promises-goodmorning promises-leaves promises-ledger promises-mornings promises-phases promises-pieces promises-refusals promises-runs promises-section6 promises-sizes promises-statuses promises-tables promises-traps promises-widths
+unfolding bind ground-choice wire-codes wire-number wire-units slots-code-turns slots-layout slots-slots ladder-code-arrays ladder-code-loading ladder-message ladder-sides ladder-walk ladder-words books-code-rows books-reading books-table strips-code-shapes strips-forms strips-reading strips-table strips-words feed-answers feed-code-judging feed-events feed-feeds feed-messages feed-program feed-reasons feed-steps promises-answering promises-build promises-checks promises-decisions promises-demands promises-desk promises-emptied promises-entries promises-goodmorning promises-leaves promises-ledger promises-mornings promises-phases promises-pieces promises-refusals promises-runs promises-section6 promises-sizes promises-statuses promises-strips promises-tables promises-traps promises-widths
 computes = 0

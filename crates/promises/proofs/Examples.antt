@@ -12,6 +12,8 @@ use Rattle.promises.specs.Entries as Entries
 use Rattle.promises.specs.Widths as Widths
 use Rattle.promises.specs.Tables as Tables
 use Rattle.promises.specs.Emptied as Emptied
+use Rattle.promises.specs.Strips as Strips
+use Rattle.feed.specs.declared.Phase.the-variants.{WaitKey, WaitLogon, Refreshing, Live}
 use Rattle.promises.specs.Traps as Traps
 use Rattle.promises.specs.Mornings as Mornings
 use Rattle.promises.proofs.Computes.{computes}
@@ -171,6 +173,114 @@ emptiedAround-hold = refl
 pub emptiedDays-hold : wrong Emptied.days ≡ []
 unfolding computes
 emptiedDays-hold = refl
+
+pub stripFirstsLive-hold : wrong (Strips.firsts Live 8 8) ≡ []
+unfolding computes
+stripFirstsLive-hold = refl
+
+pub stripFirstsRefreshing-hold : wrong (Strips.firsts Refreshing 0 7) ≡ []
+unfolding computes
+stripFirstsRefreshing-hold = refl
+
+pub stripExtremesLive-hold : wrong (Strips.extremes Live 8 8) ≡ []
+unfolding computes
+stripExtremesLive-hold = refl
+
+pub stripExtremesRefreshing-hold : wrong (Strips.extremes Refreshing 0 7) ≡ []
+unfolding computes
+stripExtremesRefreshing-hold = refl
+
+pub stripSecondsLive-hold : wrong (Strips.seconds Live 8 8) ≡ []
+unfolding computes
+stripSecondsLive-hold = refl
+
+pub stripSecondsRefreshing-hold : wrong (Strips.seconds Refreshing 0 7) ≡ []
+unfolding computes
+stripSecondsRefreshing-hold = refl
+
+pub stripUnlistedLive-hold : wrong (Strips.unlisted Live 8 8) ≡ []
+unfolding computes
+stripUnlistedLive-hold = refl
+
+pub stripUnlistedRefreshing-hold : wrong (Strips.unlisted Refreshing 0 7) ≡ []
+unfolding computes
+stripUnlistedRefreshing-hold = refl
+
+pub stripUnsoundLive-hold : wrong (Strips.unsound Live 8 8) ≡ []
+unfolding computes
+stripUnsoundLive-hold = refl
+
+pub stripUnsoundRefreshing-hold : wrong (Strips.unsound Refreshing 0 7) ≡ []
+unfolding computes
+stripUnsoundRefreshing-hold = refl
+
+pub stripUncomeLive-hold : wrong (Strips.uncome Live 8 8) ≡ []
+unfolding computes
+stripUncomeLive-hold = refl
+
+pub stripUncomeRefreshing-hold : wrong (Strips.uncome Refreshing 0 7) ≡ []
+unfolding computes
+stripUncomeRefreshing-hold = refl
+
+pub stripSoundsLive-hold : wrong (Strips.sounds Live 8 8) ≡ []
+unfolding computes
+stripSoundsLive-hold = refl
+
+pub stripSoundsRefreshing-hold : wrong (Strips.sounds Refreshing 0 7) ≡ []
+unfolding computes
+stripSoundsRefreshing-hold = refl
+
+pub stripSlotsLive-hold : wrong (Strips.slots Live 8 8) ≡ []
+unfolding computes
+stripSlotsLive-hold = refl
+
+pub stripSlotsRefreshing-hold : wrong (Strips.slots Refreshing 0 7) ≡ []
+unfolding computes
+stripSlotsRefreshing-hold = refl
+
+pub stripSizesWaitKey-hold : wrong (Strips.sizes WaitKey) ≡ []
+unfolding computes
+stripSizesWaitKey-hold = refl
+
+pub stripSizesWaitLogon-hold : wrong (Strips.sizes WaitLogon) ≡ []
+unfolding computes
+stripSizesWaitLogon-hold = refl
+
+pub stripSizesRefreshing-hold : wrong (Strips.sizes Refreshing) ≡ []
+unfolding computes
+stripSizesRefreshing-hold = refl
+
+pub stripSizesLive-hold : wrong (Strips.sizes Live) ≡ []
+unfolding computes
+stripSizesLive-hold = refl
+
+pub stripCounts-hold : wrong Strips.counts ≡ []
+unfolding computes
+stripCounts-hold = refl
+
+pub stripAround-hold : wrong Strips.around ≡ []
+unfolding computes
+stripAround-hold = refl
+
+pub stripApart-hold : wrong Strips.apart ≡ []
+unfolding computes
+stripApart-hold = refl
+
+pub stripCrossed-hold : wrong Strips.crossed ≡ []
+unfolding computes
+stripCrossed-hold = refl
+
+pub stripClears-hold : wrong Strips.clears ≡ []
+unfolding computes
+stripClears-hold = refl
+
+pub stripDays-hold : wrong Strips.days ≡ []
+unfolding computes
+stripDays-hold = refl
+
+pub stripReading-hold : wrong Strips.reading ≡ []
+unfolding computes
+stripReading-hold = refl
 
 pub traps-hold : wrong Traps.traps ≡ []
 unfolding computes

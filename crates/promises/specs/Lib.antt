@@ -10,6 +10,7 @@ pub mod Entries
 pub mod Widths
 pub mod Tables
 pub mod Emptied
+pub mod Strips
 pub mod Traps
 pub mod Refusals
 pub mod Runs
