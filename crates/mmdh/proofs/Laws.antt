@@ -11,17 +11,15 @@ use lib.ListN.{length, replicate, length-take, length-drop}
 use borrow.Author.Tests.{le-leb, lt-leb}
 use Rattle.io.specs.Digits.{Fewest}
 use Rattle.ground.specs.Choice as choice
-use Rattle.ladder.specs.Words.{bookWidth}
 use Rattle.feed.specs.Feeds.{listedLimit, newGiven}
 use Rattle.feed.specs.Events.{Tables, Connect, Arrive}
-use Rattle.feed.specs.Steps.{Outcome, accepted, stateOf, outOf, handed, outcome}
-use Rattle.feed.specs.Program.{connection}
+use Rattle.feed.specs.Steps.{Outcome, accepted, lent, stateOf, outOf, handed, outcome}
+use Rattle.feed.specs.Program.{connection, tableWords, stripWords}
 use Rattle.feed.specs.declared.Given.{Given}
 use Rattle.feed.specs.declared.Link.the-variants.{Fresh}
 use Rattle.feed.proofs.Laws.{used-fits}
 use Rattle.mmdh.specs.Code.Runs.{Within, left, Called}
 use Rattle.mmdh.specs.declared.Run.{Run}
-use Rattle.mmdh.specs.Code.Rooms.{slots}
 
 -- the feed of a fresh connect is that of Program
 pub connects : (new given : Given) → new ≡ newGiven 1000
@@ -29,7 +27,7 @@ pub connects : (new given : Given) → new ≡ newGiven 1000
     → given .feed ≡ connection .feed
 unfolding newGiven listedLimit outcome handed choice.first
 connects new given e h =
-    let x : Tables = record { books = replicate (slots * bookWidth) 0 } in
+    let x : Tables = lent (replicate tableWords 0) (replicate stripWords 0) in
     ap (λ (o : Outcome). o .given .feed) (h x) ∙ ap (λ (n : Given). outcome (record { feed = n .feed; tables = x }) (Connect Fresh 0) .given .feed) e
 
 module _ (r : Run) (buf : List ℕ) (t u : Tables) (g : Given) (w : Within r buf) (e : outOf g u ≡ outcome (stateOf (r .feed) t) (Arrive (left r buf) 0)) where

@@ -215,7 +215,7 @@ unfolding promises-Ledger.enterStatus promises-Ledger.enterTaken promises-Ledger
 promises-ledger = 0
 
 unfoldable promises-mornings : ℕ
-unfolding promises-Mornings.twoBids promises-Mornings.better promises-Mornings.tenth promises-Mornings.logsOn promises-Mornings.day promises-Mornings.refilled promises-Mornings.empties promises-Mornings.oneSlot promises-Mornings.wordsOfOne promises-Mornings.wordsOfTwo promises-Mornings.allows promises-Mornings.forbids promises-Mornings.talks promises-Mornings.keeps promises-Mornings.resumed promises-Mornings.ledgers promises-Mornings.sameTimes promises-Mornings.recounts promises-Mornings.greenFrom promises-Mornings.dark promises-Mornings.threeBids promises-Mornings.oneBid promises-Mornings.freeSlot promises-Mornings.logonThen promises-Mornings.connectsAgain promises-Mornings.ofCode promises-Mornings.twoCodes promises-Mornings.oneEmptied promises-Mornings.tales promises-Mornings.endings
+unfolding promises-Mornings.twoBids promises-Mornings.better promises-Mornings.tenth promises-Mornings.logsOn promises-Mornings.day promises-Mornings.refilled promises-Mornings.empties promises-Mornings.strips promises-Mornings.twoStrips promises-Mornings.oneSlot promises-Mornings.wordsOfOne promises-Mornings.wordsOfTwo promises-Mornings.allows promises-Mornings.forbids promises-Mornings.talks promises-Mornings.keeps promises-Mornings.resumed promises-Mornings.ledgers promises-Mornings.sameTimes promises-Mornings.ofStrip promises-Mornings.stripsAre promises-Mornings.recounts promises-Mornings.greenFrom promises-Mornings.dark promises-Mornings.threeBids promises-Mornings.oneBid promises-Mornings.freeSlot promises-Mornings.logonThen promises-Mornings.connectsAgain promises-Mornings.ofCode promises-Mornings.twoCodes promises-Mornings.oneEmptied promises-Mornings.tales promises-Mornings.striped promises-Mornings.endings
 promises-mornings = 0
 
 unfoldable promises-phases : ℕ

@@ -318,6 +318,10 @@ pub tales-hold : wrong Mornings.tales ≡ []
 unfolding computes
 tales-hold = refl
 
+pub striped-hold : wrong Mornings.striped ≡ []
+unfolding computes
+striped-hold = refl
+
 pub endings-hold : wrong Mornings.endings ≡ []
 unfolding computes
 endings-hold = refl

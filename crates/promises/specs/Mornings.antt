@@ -8,12 +8,15 @@ use lib.Dec.{eqb}
 use Rattle.ground.specs.Choice.{all}
 use Rattle.ladder.specs.Walk.{emptyBook}
 use Rattle.ladder.specs.Words.{wordsOf}
+use Rattle.strips.specs.Words as strip
+use Rattle.strips.specs.Words.{emptyStrip}
 use Rattle.feed.specs.Events.{State, Event, Connect, Arrive, Cut}
 use Rattle.feed.specs.declared.Link.{Link}
 use Rattle.feed.specs.declared.Link.the-variants.{Fresh, Resuming}
 use Rattle.promises.specs.Checks.{Check, sameWords}
 use Rattle.promises.specs.Build.{unit, heartbeat, message, sendKey, logon, logout, refresh, complete, entry, bookMessage, row, block}
-use Rattle.promises.specs.Runs.{Sizes, zeroed, start, History, endOf, tale, isGreen, green, replay, replayOn}
+use Rattle.promises.specs.Strips.{nominal, imbalance, closing, strip as stripOf}
+use Rattle.promises.specs.Runs.{Sizes, zeroed, start, History, endOf, tale, isGreen, green, replay, replayOn, replayStrip}
 use Rattle.promises.specs.Ledger.{Ledger, ledger}
 use Rattle.promises.specs.Demands.{handsBytes}
 use Rattle.promises.specs.GoodMorning.{Stage, Fills, Open, on, begins, talk, fairly}
@@ -50,6 +53,14 @@ unfoldable pub empties : Event → List Event
 empties e =
     Arrive (unit 3 7 (twoBids 700)) 6000 ∷ Arrive (unit 4 8 (bookMessage 700 [])) 6000 ∷ Arrive (unit 5 9 (bookMessage 701 [])) 6000 ∷ e ∷ []
 
+-- two strip messages for a code, around one for its book; one code more
+unfoldable pub strips : List Event
+strips =
+    Arrive (unit 3 7 (nominal 700 9730)) 6000 ∷ Arrive (unit 4 8 (twoBids 700)) 6000 ∷ Arrive (unit 5 9 (imbalance 700 66 300)) 6000 ∷ []
+
+unfoldable pub twoStrips : List Event
+twoStrips = strips ++ (Arrive (unit 6 10 (closing 701 100)) 6000 ∷ [])
+
 -- one slot of each table, and the words of one and of two
 unfoldable pub oneSlot : Sizes
 oneSlot = record { books = 1; strips = 1 }
@@ -75,6 +86,12 @@ talks =
     ∷ allows "a refresh that goes on" (logsOn 101) Fills
     ∷ allows "a book that is emptied and fills again, and a code that has none" (logsOn 0 ++ empties (Arrive (unit 6 10 (twoBids 700)) 6000)) Open
     ∷ forbids "a change of a row that was emptied" (logsOn 0 ++ empties (Arrive (unit 6 10 (bookMessage 700 (entry 0 1 1 9730 1 1 ∷ []))) 6000))
+    ∷ allows "strips of a code, before and after its book" (logsOn 0 ++ strips) Open
+    ∷ allows "a strip in a refresh" (logsOn 101 ++ (Arrive (unit 3 0 (nominal 700 9730)) 6000 ∷ [])) Fills
+    ∷ forbids "more codes than strips" (logsOn 0 ++ twoStrips)
+    ∷ forbids "a strip of the wrong size" (logsOn 0 ++ (Arrive (unit 3 7 (message 40 [])) 6000 ∷ []))
+    ∷ forbids "a direction that is not listed" (logsOn 0 ++ (Arrive (unit 3 7 (imbalance 700 0 1)) 6000 ∷ []))
+    ∷ forbids "a strip of code 0" (logsOn 0 ++ (Arrive (unit 3 7 (nominal 0 1)) 6000 ∷ []))
     ∷ forbids "logon 1" (logsOn 1)
     ∷ forbids "logon 5" (logsOn 5)
     ∷ forbids "a number left out" (logsOn 0 ++ (Arrive (unit 4 7 (twoBids 700)) 6000 ∷ []))
@@ -121,6 +138,16 @@ ledgers =
 unfoldable pub sameTimes : State → History → List (ℕ × Bool) → Bool
 sameTimes s h [] = true
 sameTimes s h (p ∷ ps) = Bool·beq (green h 1000 (p .0)) (p .1) && Bool·beq (isGreen s (p .0)) (p .1) && sameTimes s h ps
+
+-- a code's strip by the replay of its messages alone, and both strips as the run has them and as the replay gives them
+unfoldable pub ofStrip : String → List Event → ℕ → List ℕ → Check
+ofStrip name es c words = record { name = name; holds = sameWords (strip.wordsOf c (replayStrip c (tale 1000 wordsOfTwo es .deeds) emptyStrip)) words }
+
+unfoldable pub stripsAre : String → List Event → List ℕ → Check
+stripsAre name es words = record {
+  name = name;
+  holds = sameWords (replay (tale 1000 wordsOfTwo es .deeds) (zeroed wordsOfTwo) .strips) words && sameWords (endOf 1000 wordsOfTwo es .tables .strips) words;
+}
 
 unfoldable pub recounts : String → List Event → List (ℕ × Bool) → Bool → List ℕ → Check
 recounts name es times fresh words =
@@ -187,6 +214,19 @@ tales =
     ∷ recounts "an emptied book, and a code that has none" oneEmptied (greenFrom 6100) true (block 701 [] [] ++ oneBid 700)
     ∷ ofCode "the emptied book by its messages alone" oneEmptied 701 (block 701 [] [])
     ∷ ofCode "the other" oneEmptied 700 (oneBid 700)
+    ∷ []
+
+-- of strips
+unfoldable pub striped : List Check
+striped =
+    recounts "strips beside a book" (logonThen 0 twoStrips) (greenFrom 6000) true (block 700 (row 9730 4000 2 ∷ row 9720 100 1 ∷ []) [] ++ freeSlot)
+    ∷ stripsAre "two strips" (logonThen 0 twoStrips) (stripOf 700 193 (2147493378 ∷ 0 ∷ 0 ∷ 0 ∷ 0 ∷ 0 ∷ 66 ∷ 300 ∷ []) ++ stripOf 701 256 (0 ∷ 0 ∷ 0 ∷ 0 ∷ 0 ∷ 0 ∷ 0 ∷ 0 ∷ 2147483748 ∷ []))
+    ∷ ofStrip "the first code's strip by its messages alone" (logonThen 0 twoStrips) 700 (stripOf 700 193 (2147493378 ∷ 0 ∷ 0 ∷ 0 ∷ 0 ∷ 0 ∷ 66 ∷ 300 ∷ []))
+    ∷ ofStrip "the second's" (logonThen 0 twoStrips) 701 (stripOf 701 256 (0 ∷ 0 ∷ 0 ∷ 0 ∷ 0 ∷ 0 ∷ 0 ∷ 0 ∷ 2147483748 ∷ []))
+    ∷ stripsAre "a fresh connection clears them" ((logonThen 0 twoStrips) ++ connectsAgain Fresh) (replicate 24 0)
+    ∷ stripsAre "a resumed one does not" ((logonThen 0 strips) ++ connectsAgain Resuming) (stripOf 700 193 (2147493378 ∷ 0 ∷ 0 ∷ 0 ∷ 0 ∷ 0 ∷ 66 ∷ 300 ∷ []) ++ replicate 12 0)
+    ∷ recounts "one strip too many is 17" (logonThen 0 (twoStrips ++ (Arrive (unit 7 11 (nominal 702 1)) 6000 ∷ []))) (dark 6000) true
+    (block 700 (row 9730 4000 2 ∷ row 9720 100 1 ∷ []) [] ++ freeSlot)
     ∷ []
 
 -- what ends it, and what begins anew

@@ -99,9 +99,19 @@ passes name type rest = oneCall name (fed Live) held (arrives (unit 5 8 (message
 unfoldable pub types : List Check
 types =
     passes "type 0" 0 []
+    ∷ passes "type 10" 10 []
+    ∷ passes "type 39" 39 []
+    ∷ passes "type 42" 42 []
+    ∷ passes "type 44" 44 []
     ∷ passes "type 52" 52 []
     ∷ passes "type 54 of 5 bytes" 54 (1 ∷ [])
+    ∷ passes "type 55" 55 []
+    ∷ passes "type 57" 57 []
+    ∷ passes "type 60" 60 []
+    ∷ passes "type 61" 61 []
+    ∷ passes "type 63" 63 []
     ∷ passes "type 202" 202 []
+    ∷ passes "type 296, 40 in its low byte" 296 []
     ∷ passes "type 204" 204 []
     ∷ passes "type 309, 53 in its low byte" 309 []
     ∷ passes "type 1100" 1100 []
