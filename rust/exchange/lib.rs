@@ -88,6 +88,52 @@ pub fn refresh_complete(last: u32) -> Vec<u8> {
     message
 }
 
+/// A message about one code: MsgSize, MsgType, SecurityCode, zeros.
+pub fn about(kind: u16, len: usize, code: u32) -> Vec<u8> {
+    let mut message = message(kind, len);
+    message[4..8].copy_from_slice(&code.to_le_bytes());
+    message
+}
+
+/// Type 40, Nominal Price.
+pub fn nominal(code: u32, price: i32) -> Vec<u8> {
+    let mut message = about(40, 12, code);
+    message[8..12].copy_from_slice(&price.to_le_bytes());
+    message
+}
+
+/// Type 41, Indicative Equilibrium Price, and its volume.
+pub fn equilibrium(code: u32, price: i32, volume: u64) -> Vec<u8> {
+    let mut message = about(41, 20, code);
+    message[8..12].copy_from_slice(&price.to_le_bytes());
+    message[12..20].copy_from_slice(&volume.to_le_bytes());
+    message
+}
+
+/// Type 43: Reference Price, lower and upper price.
+pub fn reference(code: u32, prices: [i32; 3]) -> Vec<u8> {
+    let mut message = about(43, 20, code);
+    for (price, at) in prices.into_iter().zip([8, 12, 16]) {
+        message[at..at + 4].copy_from_slice(&price.to_le_bytes());
+    }
+    message
+}
+
+/// Type 56, Order Imbalance; the direction is `N`, `B`, `S` or a space.
+pub fn imbalance(code: u32, direction: u8, quantity: u64) -> Vec<u8> {
+    let mut message = about(56, 20, code);
+    message[8] = direction;
+    message[10..18].copy_from_slice(&quantity.to_le_bytes());
+    message
+}
+
+/// Type 62, Closing Price.
+pub fn closing(code: u32, price: i32) -> Vec<u8> {
+    let mut message = about(62, 16, code);
+    message[8..12].copy_from_slice(&price.to_le_bytes());
+    message
+}
+
 /// Type 53; without entries it is what is sent for an emptied book.
 pub fn book_message(code: u32, entries: &[Entry]) -> Vec<u8> {
     let mut message = message(53, 12);

@@ -1,7 +1,8 @@
-//! A small market: it keeps its own books and sends only entries that fit them.
+//! A small market: it keeps its own books and sends only entries that fit them, and prices around their middle.
 
 use crate::dice::Dice;
-use crate::{book_message, Entry, CHANGE, CLEAR, DELETE, NEW};
+use crate::{book_message, closing, equilibrium, imbalance, nominal, reference};
+use crate::{Entry, CHANGE, CLEAR, DELETE, NEW};
 
 const ROWS: usize = 10;
 
@@ -78,6 +79,54 @@ impl Market {
     /// The message that says a book has been emptied: it has no entries.
     pub fn emptied(&mut self, k: usize) -> Vec<u8> {
         self.message(k, &[])
+    }
+
+    /// The nominal price of a book's security.
+    pub fn nominal(&mut self, k: usize) -> Vec<u8> {
+        let price = self.near(k);
+        nominal(self.books[k].code, price)
+    }
+
+    /// Its equilibrium price and volume.
+    pub fn equilibrium(&mut self, k: usize) -> Vec<u8> {
+        let (price, volume) = (self.near(k), 400 * (1 + self.dice.below(2_000)));
+        equilibrium(self.books[k].code, price, volume)
+    }
+
+    /// The message that says there is no equilibrium price.
+    pub fn no_equilibrium(&self, k: usize) -> Vec<u8> {
+        equilibrium(self.books[k].code, 0, 0)
+    }
+
+    /// Its reference price and the band around it.
+    pub fn reference(&mut self, k: usize) -> Vec<u8> {
+        let price = self.near(k);
+        let band = price / 10 / self.books[k].tick * self.books[k].tick;
+        reference(self.books[k].code, [price, price - band, price + band])
+    }
+
+    /// The order imbalance at its equilibrium price.
+    pub fn imbalance(&mut self, k: usize) -> Vec<u8> {
+        let direction = self.dice.of(b"NBBSS");
+        let quantity = if direction == b'N' { 0 } else { 400 * (1 + self.dice.below(500)) };
+        imbalance(self.books[k].code, direction, quantity)
+    }
+
+    /// The order imbalance where there is no equilibrium price.
+    pub fn no_imbalance(&self, k: usize) -> Vec<u8> {
+        imbalance(self.books[k].code, b' ', 0)
+    }
+
+    /// Its closing price.
+    pub fn closing(&mut self, k: usize) -> Vec<u8> {
+        let price = self.near(k);
+        closing(self.books[k].code, price)
+    }
+
+    /// A price at most four ticks from the middle.
+    fn near(&mut self, k: usize) -> i32 {
+        let ticks = self.dice.below(9) as i32 - 4;
+        self.books[k].middle + ticks * self.books[k].tick
     }
 
     /// Type 53 with these entries; one without any empties the book.
