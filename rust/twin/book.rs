@@ -1,12 +1,11 @@
 //! Books: rows, sides of ten, entries, and one book message ("The book table", "Entries").
 
+use crate::slots::{code_listed, find, slot, slot_mut};
 use crate::unit::{u16_at, u32_at, u64_at};
 use crate::Answer;
 
-/// Words of one slot.
+/// Words of one book.
 pub const SLOT: usize = 64;
-/// Most slots of a table.
-pub const SLOTS: usize = 4096;
 /// Most rows of a side.
 pub const ROWS: usize = 10;
 /// Bytes of one entry.
@@ -223,30 +222,6 @@ impl Book {
     }
 }
 
-/// The words of a table that belong to slots.
-pub fn slot_words(table: &[u64]) -> usize {
-    (table.len() / SLOT).min(SLOTS) * SLOT
-}
-
-/// The lowest slot with this word 0: a code, or 0 for a free one.
-pub fn find(table: &[u64], code: u64) -> Option<usize> {
-    table[..slot_words(table)].chunks_exact(SLOT).position(|slot| slot[0] == code)
-}
-
-/// The words of one slot.
-pub fn slot(table: &[u64], k: usize) -> &[u64] {
-    &table[SLOT * k..SLOT * (k + 1)]
-}
-
-fn slot_mut(table: &mut [u64], k: usize) -> &mut [u64] {
-    &mut table[SLOT * k..SLOT * (k + 1)]
-}
-
-/// Whether a code may be asked for or sent.
-pub fn code_listed(code: u64) -> bool {
-    (1..=99_999).contains(&code)
-}
-
 /// Takes a type 53 message of the right size, whole or not at all.
 pub fn take(table: &mut [u64], message: &[u8]) -> Result<(), Answer> {
     let code = u64::from(u32_at(message, 4));
@@ -257,25 +232,25 @@ pub fn take(table: &mut [u64], message: &[u8]) -> Result<(), Answer> {
     if entries.len() == 0 {
         return empty(table, code);
     }
-    let (k, mut book) = match find(table, code) {
-        Some(k) => (k, Book::read(slot(table, k)).ok_or(Answer::Unsound)?),
-        None => (find(table, 0).ok_or(Answer::Full)?, Book::default()),
+    let (k, mut book) = match find::<SLOT>(table, code) {
+        Some(k) => (k, Book::read(slot::<SLOT>(table, k)).ok_or(Answer::Unsound)?),
+        None => (find::<SLOT>(table, 0).ok_or(Answer::Full)?, Book::default()),
     };
     for entry in entries.filter_map(Entry::read) {
         if !book.apply(entry) {
             return Err(Answer::Misfit);
         }
     }
-    book.write(code, slot_mut(table, k));
+    book.write(code, slot_mut::<SLOT>(table, k));
     Ok(())
 }
 
 /// NoEntries 0: both sides of the code's book become empty, and its slot stays its own (request 1 of document 02). A code
 /// without a book takes no slot.
 fn empty(table: &mut [u64], code: u64) -> Result<(), Answer> {
-    if let Some(k) = find(table, code) {
-        Book::read(slot(table, k)).ok_or(Answer::Unsound)?;
-        Book::default().write(code, slot_mut(table, k));
+    if let Some(k) = find::<SLOT>(table, code) {
+        Book::read(slot::<SLOT>(table, k)).ok_or(Answer::Unsound)?;
+        Book::default().write(code, slot_mut::<SLOT>(table, k));
     }
     Ok(())
 }

@@ -1,15 +1,18 @@
-//! Document 01 in plain Rust, with request 1 of document 02, written from the documents alone: the same calls over the
-//! same table of words.
+//! Document 01 in plain Rust, with requests 1 and 2 of document 02, written from the documents alone: the same calls over
+//! the same tables of words.
 //! The library is compared with it, answer by answer and word by word.
 
 #![forbid(unsafe_code)]
 #![deny(missing_docs)]
 
 pub mod book;
+pub mod slots;
+pub mod strip;
 pub mod tuned;
 pub mod unit;
 
 use book::{Book, SLOT};
+use strip::{Strip, STRIP};
 use unit::{u16_at, u32_at, Unit, HEADER};
 
 /// Longest stretch of bytes that the program of example 10 holds.
@@ -22,11 +25,11 @@ pub enum Answer {
     Taken = 0,
     /// Seen before.
     Seen = 1,
-    /// A market message other than 53.
+    /// A market message of which nothing is kept.
     Passed = 2,
     /// Not yet a whole unit.
     More = 3,
-    /// No book or no such row.
+    /// No book or no such row; no strip.
     NoRow = 4,
     /// Time before last heard.
     Early = 10,
@@ -38,13 +41,13 @@ pub enum Answer {
     NotNext = 13,
     /// Type or internal number not allowed in the phase.
     NotAllowed = 14,
-    /// Status, code, side, level or action not listed.
+    /// Status, code, side, level, action or direction not listed.
     NotListed = 15,
     /// An entry does not fit.
     Misfit = 16,
     /// No slot free.
     Full = 17,
-    /// The code's book is not sound.
+    /// The code's book or strip is not sound.
     Unsound = 18,
     /// Limit outside 1 to 600,000.
     BadLimit = 19,
@@ -100,10 +103,19 @@ pub struct Feed {
     pub heard: u64,
     /// The silence limit.
     pub limit: u64,
-    /// Whether the table is whole.
+    /// Whether the tables are whole.
     pub whole: bool,
     /// Whether the last accepted connect was fresh.
     pub fresh: bool,
+}
+
+/// The tables lent to an arrival.
+#[derive(Debug)]
+pub struct Tables<'a> {
+    /// Books, 64 words each.
+    pub books: &'a mut [u64],
+    /// Strips, 12 words each.
+    pub strips: &'a mut [u64],
 }
 
 /// What a call hands back.
@@ -139,6 +151,33 @@ pub struct ReadSide {
     pub rows: Vec<(i64, u64, u64)>,
 }
 
+/// What reading a strip hands back: prices as sent, 0 for what has not come, all 0 with an answer other than 0.
+#[derive(Clone, Copy, PartialEq, Eq, Debug)]
+pub struct ReadStrip {
+    /// The answer.
+    pub answer: Answer,
+    /// Bit k is set where value k has come.
+    pub flags: u64,
+    /// Nominal price.
+    pub nominal: i64,
+    /// Indicative equilibrium price.
+    pub iep: i64,
+    /// Its volume.
+    pub iev: u64,
+    /// Reference price.
+    pub reference: i64,
+    /// Lower price.
+    pub lower: i64,
+    /// Upper price.
+    pub upper: i64,
+    /// Imbalance direction, a character's number.
+    pub direction: u64,
+    /// Imbalance quantity.
+    pub imbalance: u64,
+    /// Closing price.
+    pub closing: i64,
+}
+
 fn limit_listed(limit: u64) -> bool {
     (1..=600_000).contains(&limit)
 }
@@ -163,7 +202,7 @@ pub fn connect(feed: Feed, resuming: bool, time: u64) -> Given {
 }
 
 /// The first unit of a stream arrives.
-pub fn arrive(feed: Feed, table: &mut [u64], stream: &[u8], time: u64) -> Given {
+pub fn arrive(feed: Feed, mut tables: Tables<'_>, stream: &[u8], time: u64) -> Given {
     if let Some(answer) = feed.shut(time) {
         return feed.unchanged(answer);
     }
@@ -171,7 +210,7 @@ pub fn arrive(feed: Feed, table: &mut [u64], stream: &[u8], time: u64) -> Given 
         Unit::More => feed.unchanged(Answer::More),
         Unit::Heartbeat => Given { answer: Answer::Taken, used: HEADER as u64, feed: Feed { heard: time, ..feed } },
         Unit::Message { seq, internal, message } => {
-            let given = feed.delivered(table, seq, internal, message, time);
+            let given = feed.delivered(&mut tables, seq, internal, message, time);
             let used = if given.answer.is_accepted() { HEADER + message.len() } else { 0 };
             Given { used: used as u64, ..given }
         }
@@ -179,10 +218,10 @@ pub fn arrive(feed: Feed, table: &mut [u64], stream: &[u8], time: u64) -> Given 
 }
 
 /// A message already cut arrives.
-pub fn arrive_cut(feed: Feed, table: &mut [u64], seq: u32, internal: u32, message: &[u8], time: u64) -> Given {
+pub fn arrive_cut(feed: Feed, mut tables: Tables<'_>, seq: u32, internal: u32, message: &[u8], time: u64) -> Given {
     match feed.shut(time) {
         Some(answer) => feed.unchanged(answer),
-        None => feed.delivered(table, seq, internal, message, time),
+        None => feed.delivered(&mut tables, seq, internal, message, time),
     }
 }
 
@@ -224,12 +263,12 @@ pub fn why(phase: u64, heard: u64, limit: u64, time: u64) -> u64 {
 /// Reads a row by code, side (0 bid, 1 offer) and rank (1 to 10).
 pub fn read_row(table: &[u64], code: u64, side: u64, rank: u64) -> Read {
     let none = |answer| Read { answer, price: 0, quantity: 0, orders: 0 };
-    if !book::code_listed(code) || side > 1 || !(1..=10).contains(&rank) {
+    if !slots::code_listed(code) || side > 1 || !(1..=10).contains(&rank) {
         return none(Answer::NotListed);
     }
-    let book = match book::find(table, code) {
+    let book = match slots::find::<SLOT>(table, code) {
         None => return none(Answer::NoRow),
-        Some(k) => match Book::read(book::slot(table, k)) {
+        Some(k) => match Book::read(slots::slot::<SLOT>(table, k)) {
             None => return none(Answer::Unsound),
             Some(book) => book,
         },
@@ -253,13 +292,41 @@ pub fn read_side(table: &[u64], code: u64, side: u64) -> ReadSide {
 }
 
 fn side_rows(table: &[u64], code: u64, side: u64) -> Result<Vec<(i64, u64, u64)>, Answer> {
-    if !book::code_listed(code) || side > 1 {
+    if !slots::code_listed(code) || side > 1 {
         return Err(Answer::NotListed);
     }
-    let slot = book::find(table, code).map(|k| book::slot(table, k)).ok_or(Answer::NoRow)?;
+    let slot = slots::find::<SLOT>(table, code).map(|k| slots::slot::<SLOT>(table, k)).ok_or(Answer::NoRow)?;
     let book = Book::read(slot).ok_or(Answer::Unsound)?;
     let rows = [book.bids, book.offers][side as usize];
     Ok(rows.rows().iter().map(|row| (i64::from(row.price), row.quantity, u64::from(row.orders))).collect())
+}
+
+/// Reads a strip by code: 15 where the code is not listed, 4 where it has no strip, 18, else 0.
+pub fn read_strip(table: &[u64], code: u64) -> ReadStrip {
+    let read = strip_of(table, code);
+    let answer = read.err().unwrap_or(Answer::Taken);
+    let strip = read.unwrap_or_default();
+    ReadStrip {
+        answer,
+        flags: strip.flags(),
+        nominal: strip.price(strip::NOMINAL),
+        iep: strip.price(strip::IEP),
+        iev: strip.number(strip::IEV),
+        reference: strip.price(strip::REFERENCE),
+        lower: strip.price(strip::LOWER),
+        upper: strip.price(strip::UPPER),
+        direction: strip.number(strip::DIRECTION),
+        imbalance: strip.number(strip::IMBALANCE),
+        closing: strip.price(strip::CLOSING),
+    }
+}
+
+fn strip_of(table: &[u64], code: u64) -> Result<Strip, Answer> {
+    if !slots::code_listed(code) {
+        return Err(Answer::NotListed);
+    }
+    let k = slots::find::<STRIP>(table, code).ok_or(Answer::NoRow)?;
+    Strip::read(slots::slot::<STRIP>(table, k)).ok_or(Answer::Unsound)
 }
 
 /// Types that are no market message.
@@ -276,7 +343,7 @@ fn size_right(message: &[u8]) -> bool {
     match u16_at(message, 2) {
         203 | 1102 | 1103 | 1202 => len == 8,
         53 => len >= 12 && len == 12 + 24 * usize::from(message[11]),
-        _ => true,
+        kind => strip::size(kind).map_or(true, |size| len == size),
     }
 }
 
@@ -315,7 +382,7 @@ impl Feed {
     }
 
     /// Answers 12 to 18, 0, 1 and 2 to a message.
-    fn delivered(self, table: &mut [u64], seq: u32, internal: u32, message: &[u8], time: u64) -> Given {
+    fn delivered(self, tables: &mut Tables<'_>, seq: u32, internal: u32, message: &[u8], time: u64) -> Given {
         if !size_right(message) {
             return self.lost(Answer::WrongSize);
         }
@@ -328,9 +395,9 @@ impl Feed {
         }
         let heard = Feed { next: self.next + 1, heard: time, ..self };
         let acted = if is_session(kind) {
-            heard.session(table, kind, message).map(|feed| (Answer::Taken, feed))
+            heard.session(tables, kind, message).map(|feed| (Answer::Taken, feed))
         } else {
-            heard.market(table, kind, u64::from(internal), message)
+            heard.market(tables, kind, u64::from(internal), message)
         };
         match acted {
             Ok((answer, feed)) => Given { answer, used: 0, feed },
@@ -339,10 +406,10 @@ impl Feed {
     }
 
     /// A session message that the phase allows.
-    fn session(self, table: &mut [u64], kind: u16, message: &[u8]) -> Result<Feed, Answer> {
+    fn session(self, tables: &mut Tables<'_>, kind: u16, message: &[u8]) -> Result<Feed, Answer> {
         match kind {
             1105 => Ok(Feed { phase: Phase::WaitLogon, ..self }),
-            1102 => self.logon(table, message[6]),
+            1102 => self.logon(tables, message[6]),
             203 => Ok(Feed { phase: Phase::Live, whole: true, internal: u64::from(u32_at(message, 4)), ..self }),
             1202 if message[4] == 0 => Ok(self),
             1103 if matches!(message[4], 6 | 102 | 103) => Ok(Feed { phase: Phase::Closed, ..self }),
@@ -350,49 +417,56 @@ impl Feed {
         }
     }
 
-    fn logon(self, table: &mut [u64], status: u8) -> Result<Feed, Answer> {
+    fn logon(self, tables: &mut Tables<'_>, status: u8) -> Result<Feed, Answer> {
         match status {
             0 | 2 => {
-                let feed = if self.fresh { self.cleared(table) } else { self };
+                let feed = if self.fresh { self.cleared(tables) } else { self };
                 Ok(Feed { phase: Phase::Live, whole: true, ..feed })
             }
-            101 => Ok(Feed { phase: Phase::Refreshing, ..self.cleared(table) }),
+            101 => Ok(Feed { phase: Phase::Refreshing, ..self.cleared(tables) }),
             1 | 3 | 8 => Ok(self),
             5 | 6 | 100 | 104 | 105 => Ok(Feed { phase: Phase::Closed, ..self }),
             _ => Err(Answer::NotListed),
         }
     }
 
-    /// Zeroes all slots.
-    fn cleared(self, table: &mut [u64]) -> Feed {
-        let words = book::slot_words(table);
-        table[..words].fill(0);
+    /// Zeroes all slots of both tables.
+    fn cleared(self, tables: &mut Tables<'_>) -> Feed {
+        slots::clear::<SLOT>(tables.books);
+        slots::clear::<STRIP>(tables.strips);
         Feed { internal: 0, whole: false, ..self }
     }
 
     /// A market message that the phase allows.
-    fn market(self, table: &mut [u64], kind: u16, internal: u64, message: &[u8]) -> Result<(Answer, Feed), Answer> {
+    fn market(
+        self,
+        tables: &mut Tables<'_>,
+        kind: u16,
+        internal: u64,
+        message: &[u8],
+    ) -> Result<(Answer, Feed), Answer> {
         let live = self.phase == Phase::Live;
         if live && internal <= self.internal {
             return Ok((Answer::Seen, self));
         }
         let feed = if live { Feed { internal, ..self } } else { self };
-        if kind != 53 {
-            return Ok((Answer::Passed, feed));
+        match kind {
+            53 => book::take(tables.books, message)?,
+            _ if strip::size(kind).is_some() => strip::take(tables.strips, message)?,
+            _ => return Ok((Answer::Passed, feed)),
         }
-        book::take(table, message)?;
         Ok((Answer::Taken, feed))
     }
 }
 
 /// The program of example 10: one connection's bytes in, all of its output back.
 pub fn program(input: &[u8]) -> String {
-    let mut table = vec![0; SLOT * 128];
+    let (mut books, mut strips) = (vec![0; SLOT * 128], vec![0; STRIP * 128]);
     let mut feed = connect(new(1_000).feed, false, 0).feed;
     let (mut at, mut units) = (0, 0);
     let last = loop {
         let held = &input[at..input.len().min(at + BUFFER)];
-        let given = arrive(feed, &mut table, held, 0);
+        let given = arrive(feed, Tables { books: &mut books, strips: &mut strips }, held, 0);
         feed = given.feed;
         if !given.answer.is_accepted() {
             break given.answer;
@@ -400,7 +474,7 @@ pub fn program(input: &[u8]) -> String {
         at += given.used as usize;
         units += 1;
     };
-    format!("code side rank price quantity orders\n{}end {} units {}\n", rows(&table), last as u64, units)
+    format!("code side rank price quantity orders\n{}end {} units {}\n", rows(&books), last as u64, units)
 }
 
 /// A line for each row, in slot order, bids before offers.

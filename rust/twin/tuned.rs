@@ -1,40 +1,49 @@
-//! The same arrivals, tuned by hand: a short way for a book message in Live, worked out in its slot, which is put back
-//! as it was where an entry does not fit.
+//! The same arrivals, tuned by hand: a short way for a book or a strip message in Live, worked out in its slot, which is
+//! put back as it was where an entry does not fit.
 
-use crate::book::{code_listed, slot_words, ENTRY, SLOT};
+use crate::book::{ENTRY, SLOT};
+use crate::slots::{code_listed, slot_words};
+use crate::strip::{self, STRIP};
 use crate::unit::{u16_at, u32_at, u64_at, HEADER};
-use crate::{Answer, Feed, Phase};
+use crate::{Answer, Feed, Phase, Tables};
 
 /// The first unit of a stream arrives; the answer and the bytes used.
-pub fn arrive(feed: &mut Feed, table: &mut [u64], stream: &[u8], time: u64) -> (Answer, u64) {
-    match live_book(feed, stream, time) {
-        Some(message) => arrive_live(feed, table, stream, message, time),
+pub fn arrive(feed: &mut Feed, tables: Tables<'_>, stream: &[u8], time: u64) -> (Answer, u64) {
+    match live_message(feed, stream, time) {
+        Some(message) => arrive_live(feed, tables, stream, message, time),
         None => {
-            let given = crate::arrive(*feed, table, stream, time);
+            let given = crate::arrive(*feed, tables, stream, time);
             *feed = given.feed;
             (given.answer, given.used)
         }
     }
 }
 
-/// The message, if it is the next one, new to a feed in Live, and a type 53 of the right size.
+/// The message, if it is the next one, new to a feed in Live, and a book or a strip message of the right size.
 #[inline]
-fn live_book<'a>(feed: &Feed, stream: &'a [u8], time: u64) -> Option<&'a [u8]> {
+fn live_message<'a>(feed: &Feed, stream: &'a [u8], time: u64) -> Option<&'a [u8]> {
     if feed.phase != Phase::Live || time < feed.heard || stream.len() < HEADER + 12 {
         return None;
     }
     let size = usize::from(u16_at(stream, HEADER));
     let is_next = u64::from(u32_at(stream, 4)) == feed.next && u64::from(u32_at(stream, 8)) > feed.internal;
-    let is_book = u16_at(stream, HEADER + 2) == 53 && size == 12 + ENTRY * usize::from(stream[HEADER + 11]);
-    if !is_next || !is_book || usize::from(u16_at(stream, 0)) == HEADER {
+    let is_kept = match u16_at(stream, HEADER + 2) {
+        53 => size == 12 + ENTRY * usize::from(stream[HEADER + 11]),
+        kind => strip::size(kind) == Some(size),
+    };
+    if !is_next || !is_kept || usize::from(u16_at(stream, 0)) == HEADER {
         return None;
     }
     stream.get(HEADER..HEADER + size)
 }
 
 #[inline]
-fn arrive_live(feed: &mut Feed, table: &mut [u64], stream: &[u8], message: &[u8], time: u64) -> (Answer, u64) {
-    match take(table, message) {
+fn arrive_live(feed: &mut Feed, tables: Tables<'_>, stream: &[u8], message: &[u8], time: u64) -> (Answer, u64) {
+    let taken = match u16_at(message, 2) {
+        53 => take(tables.books, message),
+        kind => take_strip(tables.strips, kind, message),
+    };
+    match taken {
         Ok(()) => {
             feed.next += 1;
             feed.internal = u64::from(u32_at(stream, 8));
@@ -56,16 +65,12 @@ fn take(table: &mut [u64], message: &[u8]) -> Result<(), Answer> {
     if !code_listed(code) || !entries.chunks_exact(ENTRY).all(listed) {
         return Err(Answer::NotListed);
     }
-    let words = slot_words(table);
+    let words = slot_words::<SLOT>(table);
     let slots = &mut table[..words];
     if entries.is_empty() {
         return empty_out(slots, code);
     }
-    let k = match find(slots, code) {
-        Some(k) => k,
-        None => find(slots, 0).ok_or(Answer::Full)?,
-    };
-    let slot = slot_at(slots, k);
+    let slot: &mut [u64; SLOT] = slot_for(slots, code)?;
     if slot[0] != 0 && !sound(slot) {
         return Err(Answer::Unsound);
     }
@@ -85,8 +90,8 @@ fn take(table: &mut [u64], message: &[u8]) -> Result<(), Answer> {
 /// NoEntries 0: the code's book, if it has one, loses its rows and keeps its slot.
 #[cold]
 fn empty_out(slots: &mut [u64], code: u64) -> Result<(), Answer> {
-    if let Some(k) = find(slots, code) {
-        let slot = slot_at(slots, k);
+    if let Some(k) = find::<SLOT>(slots, code) {
+        let slot: &mut [u64; SLOT] = slot_at(slots, k);
         if !sound(slot) {
             return Err(Answer::Unsound);
         }
@@ -100,12 +105,74 @@ fn listed(entry: &[u8]) -> bool {
     action == 74 || (action <= 2 && u16_at(entry, 16) <= 1 && entry[18].wrapping_sub(1) < 10)
 }
 
-fn find(slots: &[u64], code: u64) -> Option<usize> {
-    slots.chunks_exact(SLOT).position(|slot| slot[0] == code)
+/// Takes a message of a strip's type, of the right size.
+#[inline]
+fn take_strip(table: &mut [u64], kind: u16, message: &[u8]) -> Result<(), Answer> {
+    let code = u64::from(u32_at(message, 4));
+    if !code_listed(code) || (kind == 56 && !strip::direction_listed(u64::from(message[8]))) {
+        return Err(Answer::NotListed);
+    }
+    let words = slot_words::<STRIP>(table);
+    let slot: &mut [u64; STRIP] = slot_for(&mut table[..words], code)?;
+    if slot[0] == 0 {
+        *slot = [0; STRIP];
+        slot[0] = code;
+    } else if !sound_strip(slot) {
+        return Err(Answer::Unsound);
+    }
+    let price = |at: usize| u64::from(u32_at(message, at) ^ 0x8000_0000);
+    match kind {
+        40 => bring(slot, strip::NOMINAL, [price(8)]),
+        41 => bring(slot, strip::IEP, [price(8), u64_at(message, 12)]),
+        43 => bring(slot, strip::REFERENCE, [price(8), price(12), price(16)]),
+        56 => {
+            let quantity = if message[8] == b' ' { 0 } else { u64_at(message, 10) };
+            bring(slot, strip::DIRECTION, [u64::from(message[8]), quantity]);
+        }
+        _ => bring(slot, strip::CLOSING, [price(8)]),
+    }
+    Ok(())
 }
 
-fn slot_at(slots: &mut [u64], k: usize) -> &mut [u64; SLOT] {
-    (&mut slots[SLOT * k..SLOT * (k + 1)]).try_into().expect("a slot")
+/// Puts values beside each other into a strip, from one on.
+#[inline]
+fn bring<const N: usize>(slot: &mut [u64; STRIP], from: usize, values: [u64; N]) {
+    slot[1] |= ((1 << N) - 1) << from;
+    slot[2 + from..2 + from + N].copy_from_slice(&values);
+}
+
+#[inline]
+fn sound_strip(slot: &[u64; STRIP]) -> bool {
+    let flags = slot[1];
+    let mut sound = flags < 1 << strip::VALUES && slot[11] == 0;
+    for k in 0..strip::VALUES {
+        let word = slot[2 + k];
+        sound &= match k {
+            _ if (flags >> k) & 1 == 0 => word == 0,
+            strip::DIRECTION => strip::direction_listed(word),
+            strip::IEV | strip::IMBALANCE => true,
+            _ => word < 1 << 32,
+        };
+    }
+    sound
+}
+
+fn find<const WIDTH: usize>(slots: &[u64], code: u64) -> Option<usize> {
+    slots.chunks_exact(WIDTH).position(|slot| slot[0] == code)
+}
+
+fn slot_at<const WIDTH: usize>(slots: &mut [u64], k: usize) -> &mut [u64; WIDTH] {
+    (&mut slots[WIDTH * k..WIDTH * (k + 1)]).try_into().expect("a slot")
+}
+
+/// The code's slot, or the lowest free one.
+#[inline]
+fn slot_for<const WIDTH: usize>(slots: &mut [u64], code: u64) -> Result<&mut [u64; WIDTH], Answer> {
+    let k = match find::<WIDTH>(slots, code) {
+        Some(k) => k,
+        None => find::<WIDTH>(slots, 0).ok_or(Answer::Full)?,
+    };
+    Ok(slot_at(slots, k))
 }
 
 fn empty(code: u64) -> [u64; SLOT] {
