@@ -1,14 +1,20 @@
 /*
- * mmdh: order books from the exchange's MMDH feed, and a badge that is green only with the right to be.
+ * mmdh: order books from the exchange's MMDH feed, a price strip under each, and a badge that is green only with the right
+ * to be.
  *
- * The answers are the numbers of document 01; MMDH_* below names them. Every call is total: any feed, any table, any
- * bytes and any time is answered, and nothing is kept between calls. Link with libscreen.a.
+ * The answers are the numbers of document 01; MMDH_* below names them. Every call is total: any feed, any tables, any
+ * bytes and any time is answered, and nothing is kept between calls. Link with libscreen.a, and compare mmdh_version()
+ * with MMDH_VERSION once at the start: the linker does not notice an archive whose calls have other shapes.
  *
- * The table is lent: 64 words a book, at most 4,096 books; words behind the last whole book are never read or written.
- * Start with all words zero, lend the same table at every call, and hand in the feed that the call before handed back.
+ * Two tables are lent: the books, 64 words each, and the strips, 12 words each, at most 4,096 of either; words behind the
+ * last whole one are never read or written. Each table has its own order of slots. Start with all words zero, lend the
+ * same tables at every call, and hand in the feed that the call before handed back.
  * A book message without entries (NoEntries 0) empties its code's book, which keeps its place; a code without a book gets none.
- * Slices are a pointer and a length in elements; with length 0 the pointer may be null. The table must not overlap the
- * bytes.
+ * Messages of types 40, 41, 43, 56 and 62 go to the strips; a logon that clears clears both tables. There is no call with
+ * the books alone: who wants only books lends strips all the same, as many slots as codes can come, or a code that finds
+ * no slot ends the feed with 17.
+ * Slices are a pointer and a length in elements; with length 0 the pointer may be null. The tables must not overlap each
+ * other or the bytes.
  */
 #ifndef MMDH_H
 #define MMDH_H
@@ -20,16 +26,20 @@
 extern "C" {
 #endif
 
-/* Words of one book. */
-#define MMDH_BOOK_WORDS 64
+/* The request that last changed the shape of a call or a struct: what mmdh_version() of the same archive gives. */
+#define MMDH_VERSION 2
 
-/* Answers. After MMDH_TAKEN, MMDH_SEEN and MMDH_PASSED bytes are used; every other answer writes nothing to the table. */
+/* Words of one book, and of one strip. */
+#define MMDH_BOOK_WORDS 64
+#define MMDH_STRIP_WORDS 12
+
+/* Answers. After MMDH_TAKEN, MMDH_SEEN and MMDH_PASSED bytes are used; every other answer writes nothing to the tables. */
 enum {
-    MMDH_TAKEN = 0,          /* also a connect or a new feed that is accepted, and a row or a side that is read */
+    MMDH_TAKEN = 0,          /* also a connect or a new feed that is accepted, and a row, a side or a strip that is read */
     MMDH_SEEN = 1,           /* internal number not above the last: SeqNum advances and the time is heard, nothing else */
-    MMDH_PASSED = 2,         /* a market message other than a book message */
+    MMDH_PASSED = 2,         /* a market message that goes to neither table */
     MMDH_MORE = 3,           /* bytes are missing: call again with more */
-    MMDH_NO_ROW = 4,         /* reading only: no book, or no such row */
+    MMDH_NO_ROW = 4,         /* reading only: no book, or no such row; no strip */
     MMDH_EARLY = 10,         /* the time is before the last heard time */
     MMDH_NOT_OPEN = 11,      /* arrival in Idle, Lost or Closed */
     MMDH_WRONG_SIZE = 12,    /* wrong size: Lost */
@@ -38,7 +48,7 @@ enum {
     MMDH_NOT_LISTED = 15,    /* a field or status that is not listed: Lost and not whole */
     MMDH_MISFIT = 16,        /* an entry does not fit: Lost and not whole */
     MMDH_FULL = 17,          /* no slot is free: Lost and not whole */
-    MMDH_UNSOUND = 18,       /* the book is not sound: Lost and not whole */
+    MMDH_UNSOUND = 18,       /* the book or the strip is not sound: Lost and not whole */
     MMDH_BAD_LIMIT = 19,     /* new feed, limit outside 1 to 600,000: a feed with limit 1,000 is handed back */
     MMDH_CANNOT_RESUME = 20  /* resuming connect without its need */
 };
@@ -115,6 +125,26 @@ typedef struct {
     MmdhLevel row[10];
 } MmdhSide;
 
+/* A strip: each value as it came last. Bit k of the flags is set once value k has come; the values are numbered from 0 in the
+   order of the fields. A price is in thousandths, as sent; a direction is the number of 'N', 'B', 'S' or ' ', and with ' ' the
+   imbalance is 0. What has not come is 0, and with an answer other than 0 all is. */
+typedef struct {
+    uint64_t answer;
+    uint64_t flags;
+    int64_t nominal;    /* 0: type 40 */
+    int64_t iep;        /* 1: type 41 */
+    uint64_t iev;       /* 2: type 41, the volume at the price before */
+    int64_t reference;  /* 3: type 43 */
+    int64_t lower;      /* 4: type 43 */
+    int64_t upper;      /* 5: type 43 */
+    uint64_t direction; /* 6: type 56 */
+    uint64_t imbalance; /* 7: type 56 */
+    int64_t closing;    /* 8: type 62 */
+} MmdhStrip;
+
+/* The request that last changed the shape of a call or a struct: MMDH_VERSION of the header that goes with the archive. */
+uint64_t mmdh_version(void);
+
 /* A new feed with a silence limit in milliseconds. */
 MmdhGiven mmdh_new(uint64_t limit);
 
@@ -122,19 +152,22 @@ MmdhGiven mmdh_new(uint64_t limit);
 MmdhGiven mmdh_connect(MmdhFeed feed, uint64_t resuming, uint64_t time);
 
 /* Bytes that have arrived: at most one unit is taken from their front, and used says how long it was. */
-MmdhGiven mmdh_arrive(MmdhFeed feed, uint64_t *table, size_t table_len, const uint8_t *bytes, size_t bytes_len,
-                      uint64_t time);
+MmdhGiven mmdh_arrive(MmdhFeed feed, uint64_t *books, size_t books_len, uint64_t *strips, size_t strips_len,
+                      const uint8_t *bytes, size_t bytes_len, uint64_t time);
 
 /* The two numbers of a header, and its message already cut. No bytes are used. */
-MmdhGiven mmdh_arrive_cut(MmdhFeed feed, uint64_t *table, size_t table_len, uint32_t seq, uint32_t internal,
-                          const uint8_t *message, size_t message_len, uint64_t time);
+MmdhGiven mmdh_arrive_cut(MmdhFeed feed, uint64_t *books, size_t books_len, uint64_t *strips, size_t strips_len,
+                          uint32_t seq, uint32_t internal, const uint8_t *message, size_t message_len, uint64_t time);
 
 /* A row by code, side (0 bid, 1 offer) and rank (1 to 10). */
-MmdhRow mmdh_read_row(const uint64_t *table, size_t table_len, uint64_t code, uint64_t side, uint64_t rank);
+MmdhRow mmdh_read_row(const uint64_t *books, size_t books_len, uint64_t code, uint64_t side, uint64_t rank);
 
 /* All rows of a side at once: row[k] is what mmdh_read_row gives at rank k + 1. A side with no rows, as in a book that has been
    emptied, is answer 0 and count 0; a book that is not there is 4. */
-MmdhSide mmdh_read_side(const uint64_t *table, size_t table_len, uint64_t code, uint64_t side);
+MmdhSide mmdh_read_side(const uint64_t *books, size_t books_len, uint64_t code, uint64_t side);
+
+/* A strip by code: 15 where there is no such code, 4 where it has no strip, 18 where its strip is not sound. */
+MmdhStrip mmdh_read_strip(const uint64_t *strips, size_t strips_len, uint64_t code);
 
 /* The badge at a time, of a feed's phase, last heard time and limit: a limit outside 1 to 600,000 is stale. */
 uint64_t mmdh_badge(uint64_t phase, uint64_t heard, uint64_t limit, uint64_t time);

@@ -1,5 +1,5 @@
-/* include/mmdh.h as a C program meets it: example 10's three units through the archive, the row and the sides they leave, an
-   emptied book, the badge and every reason. */
+/* include/mmdh.h as a C program meets it: its version, example 10's three units through the archive, the row and the sides
+   they leave, an emptied book, a strip of every type, the badge and every reason. */
 #include <stdio.h>
 #include <string.h>
 
@@ -45,21 +45,25 @@ static void reasons(void) {
 /* With length 0 a pointer may be null. */
 static void nothing_lent(void) {
     MmdhFeed open = mmdh_connect(mmdh_new(1000).feed, 0, 5).feed;
-    MmdhGiven more = mmdh_arrive(open, NULL, 0, NULL, 0, 6);
-    expect("no bytes and no table: more", more.answer == MMDH_MORE && more.used == 0 && more.feed.phase == MMDH_WAIT_KEY);
-    MmdhGiven cut = mmdh_arrive_cut(open, NULL, 0, 1, 0, NULL, 0, 6);
+    MmdhGiven more = mmdh_arrive(open, NULL, 0, NULL, 0, NULL, 0, 6);
+    expect("no bytes and no tables: more", more.answer == MMDH_MORE && more.used == 0 && more.feed.phase == MMDH_WAIT_KEY);
+    MmdhGiven cut = mmdh_arrive_cut(open, NULL, 0, NULL, 0, 1, 0, NULL, 0, 6);
     expect("a message of no bytes: wrong size", cut.answer == MMDH_WRONG_SIZE && cut.feed.phase == MMDH_LOST);
     expect("a row of no table", mmdh_read_row(NULL, 0, 700, 0, 1).answer == MMDH_NO_ROW);
+    expect("a strip of no table", mmdh_read_strip(NULL, 0, 700).answer == MMDH_NO_ROW);
 
-    /* a logon that clears, and a book message, on no table */
+    /* a logon that clears, a book message and a strip message, on no tables */
     static const uint8_t logon[8] = {8, 0, 0x4E, 4, 0, 0, 0, 0};
     static const uint8_t book[36] = {36, 0, 53, 0, 0xBC, 2, 0, 0, 0, 0, 0, 1, 1, 0, 0, 0, 0, 0, 0, 0, 1, 0, 0, 0, 1, 0, 0, 0, 0, 0, 1, 0};
+    static const uint8_t nominal[12] = {12, 0, 40, 0, 0xBC, 2, 0, 0, 2, 0x26, 0, 0};
     static const uint8_t key[4] = {4, 0, 0x51, 4};
-    MmdhFeed f = mmdh_arrive_cut(open, NULL, 0, 1, 0, key, sizeof key, 6).feed;
-    MmdhGiven live = mmdh_arrive_cut(f, NULL, 0, 2, 0, logon, sizeof logon, 6);
-    expect("a logon clears no table", live.answer == MMDH_TAKEN && live.feed.phase == MMDH_LIVE);
+    MmdhFeed f = mmdh_arrive_cut(open, NULL, 0, NULL, 0, 1, 0, key, sizeof key, 6).feed;
+    MmdhGiven live = mmdh_arrive_cut(f, NULL, 0, NULL, 0, 2, 0, logon, sizeof logon, 6);
+    expect("a logon clears no tables", live.answer == MMDH_TAKEN && live.feed.phase == MMDH_LIVE);
     expect("a book message finds no slot in no table",
-           mmdh_arrive_cut(live.feed, NULL, 0, 3, 1, book, sizeof book, 6).answer == MMDH_FULL);
+           mmdh_arrive_cut(live.feed, NULL, 0, NULL, 0, 3, 1, book, sizeof book, 6).answer == MMDH_FULL);
+    expect("a strip message finds no slot in no table",
+           mmdh_arrive_cut(live.feed, NULL, 0, NULL, 0, 3, 1, nominal, sizeof nominal, 6).answer == MMDH_FULL);
 }
 
 /* A side against single reads, rank by rank; where it is not read, each of them is refused alike. */
@@ -112,20 +116,68 @@ static void emptied(void) {
     memcpy(table + MMDH_BOOK_WORDS, unsound, sizeof unsound);
     table[128] = 77;
     memcpy(wanted, table, sizeof table);
-    MmdhGiven given = mmdh_arrive_cut(live, table, 129, 3, 1, of_702, sizeof of_702, 6);
+    MmdhGiven given = mmdh_arrive_cut(live, table, 129, NULL, 0, 3, 1, of_702, sizeof of_702, 6);
     expect("no book and no slot: taken", given.answer == MMDH_TAKEN && given.feed.next == 4 && given.feed.internal == 1);
-    given = mmdh_arrive_cut(live, table, 129, 3, 1, of_701, sizeof of_701, 6);
+    given = mmdh_arrive_cut(live, table, 129, NULL, 0, 3, 1, of_701, sizeof of_701, 6);
     expect("an unsound book: lost and not whole", given.answer == MMDH_UNSOUND && given.feed.phase == MMDH_LOST && given.feed.whole == 0);
     expect("neither writes anything", memcmp(table, wanted, sizeof table) == 0);
-    given = mmdh_arrive_cut(live, table, 129, 3, 1, of_700, sizeof of_700, 6);
+    given = mmdh_arrive_cut(live, table, 129, NULL, 0, 3, 1, of_700, sizeof of_700, 6);
     memset(wanted + 1, 0, (MMDH_BOOK_WORDS - 1) * sizeof wanted[0]);
     expect("a book with rows: taken", given.answer == MMDH_TAKEN && given.feed.next == 4 && given.feed.internal == 1);
     expect("its code is all that is left of it", memcmp(table, wanted, sizeof table) == 0);
     expect("it is there, without rows", mmdh_read_side(table, 129, 700, 0).answer == 0 && mmdh_read_side(table, 129, 700, 0).count == 0);
 }
 
+/* A message of each type that goes to the strips, the words it leaves, and what is read of them. Books beside them are not
+   looked at: there are none. */
+static void strips(void) {
+    static const uint8_t nominal[12] = {12, 0, 40, 0, 0xBC, 2, 0, 0, 2, 0x26, 0, 0};
+    static const uint8_t iep[20] = {20, 0, 41, 0, 0xBC, 2, 0, 0, 0xFB, 0xFF, 0xFF, 0xFF, 0xA0, 0x0F, 0, 0, 0, 0, 0, 0};
+    static const uint8_t reference[20] = {20, 0, 43, 0, 0xBC, 2, 0, 0, 3, 0, 0, 0, 2, 0, 0, 0, 4, 0, 0, 0};
+    static const uint8_t imbalance[20] = {20, 0, 56, 0, 0xBC, 2, 0, 0, 'B', 32, 0x90, 1, 0, 0, 0, 0, 0, 0, 32, 32};
+    static const uint8_t closing[16] = {16, 0, 62, 0, 0xBC, 2, 0, 0, 0, 0, 0, 0, 32, 32, 32, 32};
+    static const uint8_t none[20] = {20, 0, 56, 0, 0xBC, 2, 0, 0, ' ', 32, 0x90, 1, 0, 0, 0, 0, 0, 0, 32, 32};
+    static const uint8_t other[20] = {20, 0, 56, 0, 0xBC, 2, 0, 0, 'X', 32, 0x90, 1, 0, 0, 0, 0, 0, 0, 32, 32};
+    static const struct {
+        const char *what;
+        const uint8_t *message;
+        size_t length;
+    } cases[] = {
+        {"nominal price", nominal, sizeof nominal}, {"IEP", iep, sizeof iep}, {"reference price", reference, sizeof reference},
+        {"order imbalance", imbalance, sizeof imbalance}, {"closing price", closing, sizeof closing},
+    };
+    static const uint64_t wanted[MMDH_STRIP_WORDS] = {700, 511, 2147493378u, 2147483643u, 4000, 2147483651u, 2147483650u,
+                                                      2147483652u, 'B', 400, 2147483648u, 0};
+    static const MmdhStrip all = {0, 511, 9730, -5, 4000, 3, 2, 4, 'B', 400, 0}, no_strip = {MMDH_NO_ROW, 0, 0, 0, 0, 0, 0, 0, 0, 0, 0};
+    uint64_t table[2 * MMDH_STRIP_WORDS - 1] = {0};
+    MmdhFeed live = {MMDH_LIVE, 3, 0, 5, 1000, 1, 1};
+    MmdhStrip strip = mmdh_read_strip(table, 23, 700);
+    expect("no strip yet", memcmp(&strip, &no_strip, sizeof strip) == 0);
+    for (size_t k = 0; k < sizeof cases / sizeof cases[0]; k++) {
+        MmdhGiven short_one = mmdh_arrive_cut(live, NULL, 0, table, 23, (uint32_t)live.next, (uint32_t)k + 1, cases[k].message, cases[k].length - 1, 6);
+        expect("a part that is too short", short_one.answer == MMDH_WRONG_SIZE);
+        MmdhGiven given = mmdh_arrive_cut(live, NULL, 0, table, 23, (uint32_t)live.next, (uint32_t)k + 1, cases[k].message, cases[k].length, 6);
+        expect(cases[k].what, given.answer == MMDH_TAKEN && given.feed.next == live.next + 1 && given.feed.internal == k + 1);
+        live = given.feed;
+    }
+    expect("the words of the strip", memcmp(table, wanted, sizeof wanted) == 0);
+    strip = mmdh_read_strip(table, 23, 700);
+    expect("the strip as it is read", memcmp(&strip, &all, sizeof strip) == 0);
+    MmdhGiven given = mmdh_arrive_cut(live, NULL, 0, table, 23, (uint32_t)live.next, 6, other, sizeof other, 6);
+    expect("a direction that is not listed", given.answer == MMDH_NOT_LISTED && given.feed.phase == MMDH_LOST && given.feed.whole == 0);
+    expect("it writes nothing", memcmp(table, wanted, sizeof wanted) == 0);
+    given = mmdh_arrive_cut(live, NULL, 0, table, 23, (uint32_t)live.next, 6, none, sizeof none, 6);
+    strip = mmdh_read_strip(table, 23, 700);
+    expect("no direction, no quantity", given.answer == MMDH_TAKEN && strip.flags == 511 && strip.direction == ' ' && strip.imbalance == 0);
+    expect("no such code", mmdh_read_strip(table, 23, 0).answer == MMDH_NOT_LISTED && mmdh_read_strip(table, 23, 100000).answer == MMDH_NOT_LISTED);
+    table[11] = 1;
+    strip = mmdh_read_strip(table, 23, 700);
+    expect("an unsound strip", strip.answer == MMDH_UNSOUND && strip.flags == 0 && strip.nominal == 0 && strip.direction == 0);
+    expect("nothing behind the last strip", table[12] == 0 && table[22] == 0);
+}
+
 int main(int argc, char **argv) {
-    static uint64_t table[2 * MMDH_BOOK_WORDS + 1];
+    static uint64_t table[2 * MMDH_BOOK_WORDS + 1], strip_table[MMDH_STRIP_WORDS + 1];
     static uint8_t bytes[4096];
     size_t n = 0, at = 0;
     FILE *in = argc == 2 ? fopen(argv[1], "rb") : NULL;
@@ -136,20 +188,21 @@ int main(int argc, char **argv) {
     n = fread(bytes, 1, sizeof bytes, in);
     fclose(in);
 
+    expect("the archive is of the header's version", mmdh_version() == MMDH_VERSION);
     expect("a limit of 0 is 19, with 1,000 instead", mmdh_new(0).answer == MMDH_BAD_LIMIT && mmdh_new(0).feed.limit == 1000);
     MmdhGiven given = mmdh_new(1000);
     expect("a new feed is Idle", given.answer == 0 && given.used == 0 && given.feed.phase == MMDH_IDLE && given.feed.next == 1);
     expect("a new feed cannot resume", mmdh_connect(given.feed, 1, 5).answer == MMDH_CANNOT_RESUME);
     given = mmdh_connect(given.feed, 0, 5);
     expect("a fresh connect waits for the key", given.answer == 0 && given.feed.phase == MMDH_WAIT_KEY && given.feed.heard == 5);
-    expect("no bytes are More", mmdh_arrive(given.feed, table, 0, bytes, 0, 5).answer == MMDH_MORE);
+    expect("no bytes are More", mmdh_arrive(given.feed, table, 0, strip_table, 0, bytes, 0, 5).answer == MMDH_MORE);
 
-    table[128] = 77;
+    table[128] = strip_table[0] = strip_table[12] = 77;
     int units = 0;
     MmdhFeed before = given.feed;
     for (;;) {
         before = given.feed;
-        given = mmdh_arrive(given.feed, table, 129, bytes + at, n - at, 6);
+        given = mmdh_arrive(given.feed, table, 129, strip_table, 13, bytes + at, n - at, 6);
         if (given.answer > MMDH_PASSED) break;
         at += given.used;
         units++;
@@ -162,7 +215,8 @@ int main(int argc, char **argv) {
     expect("the row", row.answer == 0 && row.price == 9730 && row.quantity == 4000 && row.orders == 2);
     expect("no second row", mmdh_read_row(table, 129, 700, 0, 2).answer == MMDH_NO_ROW);
     expect("rank 11 is a bad field", mmdh_read_row(table, 129, 700, 0, 11).answer == MMDH_NOT_LISTED);
-    expect("the word behind the slots", table[128] == 77);
+    expect("the words behind the slots", table[128] == 77 && strip_table[12] == 77);
+    expect("the logon cleared both tables", strip_table[0] == 0);
 
     MmdhFeed f = given.feed;
     expect("green to the limit", mmdh_badge(f.phase, f.heard, f.limit, 6) == MMDH_GREEN && mmdh_badge(f.phase, f.heard, f.limit, 1006) == MMDH_GREEN);
@@ -172,17 +226,18 @@ int main(int argc, char **argv) {
     expect("the bids at once", as_single(table, 129, 700, 0) && mmdh_read_side(table, 129, 700, 0).count == 1);
     sides();
     emptied();
+    strips();
 
     reasons();
     nothing_lent();
     expect("live by its reason", mmdh_why(f.phase, f.heard, f.limit, 6) == MMDH_WHY_LIVE);
 
-    MmdhGiven gap = mmdh_arrive_cut(f, table, 129, 9, 2, bytes + 72, 36, 7);
+    MmdhGiven gap = mmdh_arrive_cut(f, table, 129, strip_table, 13, 9, 2, bytes + 72, 36, 7);
     expect("a lost message is 13, and Lost", gap.answer == MMDH_NOT_NEXT && gap.used == 0 && gap.feed.phase == MMDH_LOST && gap.feed.whole == 1);
     expect("stale from then on", mmdh_badge(gap.feed.phase, gap.feed.heard, gap.feed.limit, 7) == MMDH_STALE);
-    MmdhGiven misfit = mmdh_arrive_cut(f, table, 129, 4, 2, bytes + 72, 36, 7);
+    MmdhGiven misfit = mmdh_arrive_cut(f, table, 129, strip_table, 13, 4, 2, bytes + 72, 36, 7);
     expect("the same level again does not fit", misfit.answer == MMDH_MISFIT && misfit.feed.whole == 0);
-    expect("an earlier time is 10", mmdh_arrive_cut(f, table, 129, 4, 2, bytes + 72, 36, 5).answer == MMDH_EARLY);
+    expect("an earlier time is 10", mmdh_arrive_cut(f, table, 129, strip_table, 13, 4, 2, bytes + 72, 36, 5).answer == MMDH_EARLY);
 
     printf("%d passed, %d failed\n", passed, failed);
     return failed != 0;
