@@ -16,7 +16,7 @@ use std::fmt;
 #[non_exhaustive]
 #[derive(Clone, Copy, PartialEq, Eq, Hash, Debug)]
 pub enum Answer {
-    /// 0: taken; a connect or a new feed accepted; a row read.
+    /// 0: taken; a connect or a new feed accepted; a row or a strip read.
     Taken,
     /// 1: a market message that was there already, by its internal number.
     Seen,
@@ -24,7 +24,7 @@ pub enum Answer {
     Passed,
     /// 3: no whole unit yet; hand in the same bytes again with more behind them.
     More,
-    /// 4: there is no book for the code, or no such row in it.
+    /// 4: there is no book for the code, or no such row in it; or no strip.
     NoRow,
     /// 10: the time lies before the last heard time.
     Early,
@@ -36,13 +36,13 @@ pub enum Answer {
     NotNext,
     /// 14: the type or the internal number is not allowed in this phase.
     NotAllowed,
-    /// 15: a status, code, side, level or action is not listed.
+    /// 15: a status, code, side, level, action or direction is not listed.
     NotListed,
     /// 16: an entry does not fit the book.
     Misfit,
-    /// 17: the code has no book and no slot is free.
+    /// 17: the code has no book or strip, and no slot is free for one.
     Full,
-    /// 18: the code's book in the table is not sound.
+    /// 18: the code's book or strip in the table is not sound.
     Unsound,
     /// 19: a silence limit outside 1 to 600,000 ms.
     BadLimit,
@@ -56,16 +56,16 @@ const SENTENCES: [(u64, Answer, &str); 16] = [
     (1, Answer::Seen, "seen before"),
     (2, Answer::Passed, "passed over"),
     (3, Answer::More, "more bytes are needed for a whole unit"),
-    (4, Answer::NoRow, "there is no such book, or no such row in it"),
+    (4, Answer::NoRow, "there is no such book, row or strip"),
     (10, Answer::Early, "the time is before the last heard time"),
     (11, Answer::NotOpen, "the feed is not open for arrivals"),
     (12, Answer::WrongSize, "the message has a wrong size"),
     (13, Answer::NotNext, "the sequence number is not the next"),
     (14, Answer::NotAllowed, "the type or the internal number is not allowed in this phase"),
-    (15, Answer::NotListed, "a status, code, side, level or action is not listed"),
+    (15, Answer::NotListed, "a status, code, side, level, action or direction is not listed"),
     (16, Answer::Misfit, "an entry does not fit the book"),
-    (17, Answer::Full, "the code has no book and no slot is free"),
-    (18, Answer::Unsound, "the book in the table is not sound"),
+    (17, Answer::Full, "the code has no slot in the table and none is free"),
+    (18, Answer::Unsound, "the code's book or strip in the table is not sound"),
     (19, Answer::BadLimit, "the silence limit is outside 1 to 600,000 ms"),
     (20, Answer::CannotResume, "there is nothing whole to resume from"),
 ];

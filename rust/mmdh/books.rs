@@ -1,12 +1,10 @@
 //! The books: a table of 64-bit words, owned or lent, and the rows in it.
 
-use crate::raw::{self, MmdhLevel, ROWS};
+use crate::raw::{self, MmdhLevel, BOOK_WORDS, ROWS};
+use crate::tables::Words;
 use crate::{Answer, Refused};
 use std::fmt;
 use std::ops::Deref;
-
-const SLOT: usize = 64;
-const SLOTS: usize = 4096;
 
 /// Which side of a book.
 #[derive(Clone, Copy, PartialEq, Eq, Hash, Debug)]
@@ -38,11 +36,6 @@ pub struct Row {
     pub orders: u64,
 }
 
-enum Words<'a> {
-    Owned(Vec<u64>),
-    Lent(&'a mut [u64]),
-}
-
 /// A table of books, to be read. A [`Line`](crate::Line) has its own; only whoever makes single calls makes one.
 ///
 /// ```
@@ -60,17 +53,15 @@ enum Words<'a> {
 /// assert_eq!(Books::over(&mut words).slots(), 10);
 /// ```
 pub struct Books<'a> {
-    words: Words<'a>,
-}
-
-impl Books<'static> {
-    /// Empty books with room for this many codes, at most 4,096.
-    pub fn with_slots(slots: usize) -> Books<'static> {
-        Books { words: Words::Owned(vec![0; SLOT * slots.min(SLOTS)]) }
-    }
+    words: Words<'a, BOOK_WORDS>,
 }
 
 impl<'a> Books<'a> {
+    /// Empty books with room for this many codes, at most 4,096.
+    pub fn with_slots(slots: usize) -> Books<'a> {
+        Books { words: Words::with_slots(slots) }
+    }
+
     /// Books over the caller's words, 64 to a book, as they stand. A new feed wants them zero.
     pub fn over(words: &'a mut [u64]) -> Books<'a> {
         Books { words: Words::Lent(words) }
@@ -78,22 +69,16 @@ impl<'a> Books<'a> {
 
     /// How many codes there is room for.
     pub fn slots(&self) -> usize {
-        (self.words().len() / SLOT).min(SLOTS)
+        self.words.slots()
     }
 
     /// All words of the table.
     pub fn words(&self) -> &[u64] {
-        match &self.words {
-            Words::Owned(words) => words,
-            Words::Lent(words) => words,
-        }
+        self.words.all()
     }
 
     pub(crate) fn words_mut(&mut self) -> &mut [u64] {
-        match &mut self.words {
-            Words::Owned(words) => words,
-            Words::Lent(words) => words,
-        }
+        self.words.all_mut()
     }
 
     /// One row, rank 1 the best; refused with 15, 4 or 18 where there is none to read.
@@ -123,8 +108,7 @@ impl<'a> Books<'a> {
 
     /// The codes that have a slot, in slot order; a book that has been emptied keeps its own.
     pub fn codes(&self) -> impl Iterator<Item = u64> + '_ {
-        let slots = self.words().chunks_exact(SLOT).take(SLOTS);
-        slots.map(|slot| slot[0]).filter(|&code| code != 0)
+        self.words.codes()
     }
 }
 

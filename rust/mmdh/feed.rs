@@ -1,7 +1,7 @@
 //! One feed by its single calls, and the badge that it has earned.
 
-use crate::raw::{self, MmdhFeed, MmdhGiven};
-use crate::{Answer, Books, Refused, Why};
+use crate::raw::{self, Lent, MmdhFeed, MmdhGiven};
+use crate::{Answer, Refused, Tables, Why};
 use std::fmt;
 
 /// Where a feed stands.
@@ -66,9 +66,9 @@ impl fmt::Display for Badge {
 /// Which kind of connect.
 #[derive(Clone, Copy, PartialEq, Eq, Hash, Debug)]
 pub enum Connect {
-    /// From empty books: the accepted logon clears the table.
+    /// From empty tables: the accepted logon clears them.
     Fresh,
-    /// From the last internal number: the table is kept, if it is whole.
+    /// From the last internal number: the tables are kept, if they are whole.
     Resuming,
 }
 
@@ -86,15 +86,15 @@ pub struct Arrival {
 /// One feed: what is known of a line, and whether its books may be shown as live.
 ///
 /// These are single calls; [`Line`](crate::Line) makes them for you. Whoever makes them keeps two things right by
-/// hand: the same table is lent at every call, and bytes that were not used are handed in again with more behind
+/// hand: the same tables are lent at every call, and bytes that were not used are handed in again with more behind
 /// them. A feed is neither `Copy` nor `Clone`: its state after a call is the only one to go on with.
 ///
 /// ```
 /// use mmdh::single::Feed;
-/// use mmdh::{Answer, Badge, Books, Connect, Phase};
+/// use mmdh::{Answer, Badge, Connect, Phase, Tables};
 ///
 /// let mut feed = Feed::new(1_000)?;
-/// let mut books = Books::with_slots(128);
+/// let mut tables = Tables::with_slots(128);
 /// assert!(feed.connect(Connect::Fresh, 5_000).is_accepted());
 ///
 /// // SendKey (1105) and the logon response (1102) with status 0, each behind its header; then a unit cut short
@@ -105,7 +105,7 @@ pub struct Arrival {
 /// ];
 /// let mut at = 0;
 /// loop {
-///     let arrival = feed.arrive(&mut books, &line[at..], 5_000);
+///     let arrival = feed.arrive(&mut tables, &line[at..], 5_000);
 ///     match arrival.answer.or_refused() {
 ///         Ok(Answer::More) => break,            // wait for the line, and hand in what is left again
 ///         Ok(_) => at += arrival.used,          // taken, seen or passed: go on behind it
@@ -142,8 +142,8 @@ impl Feed {
     }
 
     /// Works on the first unit in these bytes.
-    pub fn arrive(&mut self, books: &mut Books<'_>, bytes: &[u8], time: u64) -> Arrival {
-        let given = raw::arrive(self.plain, books.words_mut(), bytes, time);
+    pub fn arrive(&mut self, tables: &mut Tables<'_>, bytes: &[u8], time: u64) -> Arrival {
+        let given = raw::arrive(self.plain, lent(tables), bytes, time);
         Arrival { answer: self.after(given), used: given.used as usize }
     }
 
@@ -151,16 +151,23 @@ impl Feed {
     ///
     /// ```
     /// use mmdh::single::Feed;
-    /// use mmdh::{Answer, Books, Connect};
+    /// use mmdh::{Answer, Connect, Tables};
     /// let mut feed = Feed::new(1_000)?;
-    /// let mut books = Books::with_slots(1);
-    /// assert_eq!(feed.arrive_cut(&mut books, 1, 0, &[4, 0, 0x51, 4], 0), Answer::NotOpen);
+    /// let mut tables = Tables::with_slots(1);
+    /// assert_eq!(feed.arrive_cut(&mut tables, 1, 0, &[4, 0, 0x51, 4], 0), Answer::NotOpen);
     /// assert_eq!(feed.connect(Connect::Fresh, 0), Answer::Taken);
-    /// assert_eq!(feed.arrive_cut(&mut books, 1, 0, &[4, 0, 0x51, 4], 0), Answer::Taken);
+    /// assert_eq!(feed.arrive_cut(&mut tables, 1, 0, &[4, 0, 0x51, 4], 0), Answer::Taken);
     /// # Ok::<(), mmdh::Refused>(())
     /// ```
-    pub fn arrive_cut(&mut self, books: &mut Books<'_>, seq: u32, internal: u32, message: &[u8], time: u64) -> Answer {
-        let given = raw::arrive_cut(self.plain, books.words_mut(), seq, internal, message, time);
+    pub fn arrive_cut(
+        &mut self,
+        tables: &mut Tables<'_>,
+        seq: u32,
+        internal: u32,
+        message: &[u8],
+        time: u64,
+    ) -> Answer {
+        let given = raw::arrive_cut(self.plain, lent(tables), seq, internal, message, time);
         self.after(given)
     }
 
@@ -211,7 +218,7 @@ impl Feed {
         self.plain.limit
     }
 
-    /// Whether the books hold all that was sent since the last clearing.
+    /// Whether the tables hold all that was sent since the last clearing.
     pub fn whole(&self) -> bool {
         self.plain.whole != 0
     }
@@ -239,4 +246,9 @@ impl Feed {
         self.plain = given.feed;
         Answer::given(given.answer)
     }
+}
+
+/// The tables' words, for one call.
+fn lent<'a>(tables: &'a mut Tables<'_>) -> Lent<'a> {
+    Lent { books: tables.books.words_mut(), strips: tables.strips.words_mut() }
 }

@@ -1,8 +1,8 @@
 //! Order books on a screen, with a badge that is green only by right.
 //!
-//! A safe cover over the proved library's C calls. A [`Line`] takes a line's bytes in any pieces, fills its books and
-//! says what a panel's corner shows, and why. Each call gets one of document 01's answers, whatever the bytes, the
-//! table and the clock; nobody has to check first. [`connection`] tells the life of a connection.
+//! A safe cover over the proved library's C calls. A [`Line`] takes a line's bytes in any pieces, fills its books and the
+//! price strips under them, and says what a panel's corner shows, and why. Each call gets one of document 01's answers,
+//! whatever the bytes, the tables and the clock; nobody has to check first. [`connection`] tells the life of a connection.
 //!
 //! ```
 //! use mmdh::{Badge, Connect, Line};
@@ -44,15 +44,19 @@ mod feed;
 mod line;
 #[allow(unsafe_code)]
 pub mod raw;
+mod strips;
+mod tables;
 mod why;
 
 pub use answer::{Answer, Refused};
 pub use books::{Books, Row, Rows, Side};
 pub use feed::{Badge, Connect, Phase};
 pub use line::{Heard, Line, Unit};
+pub use strips::{Direction, Strip, Strips};
+pub use tables::Tables;
 pub use why::{Closing, Loss, Reason, Why};
 
-/// Single calls: a feed without its table and without the bytes not yet used. [`Line`] makes them in the right order;
+/// Single calls: a feed without its tables and without the bytes not yet used. [`Line`] makes them in the right order;
 /// they are for those who keep tables or bytes in a way of their own.
 pub mod single {
     pub use crate::feed::{Arrival, Feed};

@@ -1,13 +1,13 @@
-//! One line: the owner of a feed, of the books it fills and of the bytes not yet used.
+//! One line: the owner of a feed, of the tables it fills and of the bytes not yet used.
 
 use crate::single::Feed;
 use crate::why::{Closing, Loss, Reason};
-use crate::{Answer, Badge, Books, Connect, Phase, Refused, Why};
+use crate::{Answer, Badge, Books, Connect, Phase, Refused, Strips, Tables, Why};
 
 const HEADER: usize = 20;
 
-/// One line of the exchange, all of it: the feed, the books that it fills and the bytes that wait for the rest of
-/// their unit. Nothing else can write the books, so the badge speaks of the rows that [`Line::books`] shows.
+/// One line of the exchange, all of it: the feed, the books and strips that it fills and the bytes that wait for the rest
+/// of their unit. Nothing else can write them, so the badge speaks of what [`Line::books`] and [`Line::strips`] show.
 ///
 /// ```
 /// use mmdh::{Badge, Connect, Line, Why};
@@ -39,7 +39,7 @@ const HEADER: usize = 20;
 #[derive(Debug)]
 pub struct Line {
     feed: Feed,
-    books: Books<'static>,
+    tables: Tables<'static>,
     held: Vec<u8>,
     saw: Saw,
 }
@@ -78,14 +78,16 @@ pub struct Unit<'a> {
     pub feed: &'a Feed,
     /// The books after it.
     pub books: &'a Books<'static>,
+    /// The strips after it.
+    pub strips: &'a Strips<'static>,
 }
 
 impl Line {
     /// A line that is not connected yet, with a silence limit of 1 to 600,000 ms (else refused with 19) and empty
-    /// books with room for this many codes, at most 4,096.
+    /// books and strips with room for this many codes each, at most 4,096.
     pub fn new(limit: u64, slots: usize) -> Result<Line, Refused> {
         let feed = Feed::new(limit)?;
-        Ok(Line { feed, books: Books::with_slots(slots), held: Vec::new(), saw: Saw::default() })
+        Ok(Line { feed, tables: Tables::with_slots(slots), held: Vec::new(), saw: Saw::default() })
     }
 
     /// The line has been connected. Bytes that still waited are dropped. Refused with 10 or 20, and then nothing is
@@ -152,14 +154,15 @@ impl Line {
         loop {
             let rest = &bytes[used..];
             let expected = self.feed.next();
-            let arrival = self.feed.arrive(&mut self.books, rest, time);
+            let arrival = self.feed.arrive(&mut self.tables, rest, time);
             match arrival.answer.or_refused() {
                 Ok(Answer::More) => return (used, None),
                 Ok(answer) => {
                     let unit = &rest[..arrival.used];
                     used += arrival.used;
                     self.accepted(&unit[HEADER..], time);
-                    each(&Unit { answer, number: self.saw.units, bytes: unit, feed: &self.feed, books: &self.books });
+                    let (number, feed, tables) = (self.saw.units, &self.feed, &self.tables);
+                    each(&Unit { answer, number, bytes: unit, feed, books: &tables.books, strips: &tables.strips });
                 }
                 Err(refused) => {
                     let met = rest.get(4..8).and_then(|seq| seq.try_into().ok()).map_or(0, u32::from_le_bytes);
@@ -183,13 +186,13 @@ impl Line {
     /// assert_eq!(line.hear_cut(1, 0, &[4, 0, 0x51, 4], 0)?, Answer::Taken);
     /// assert_eq!(line.hear_cut(2, 0, &[8, 0, 0x4E, 4, 0, 0, 0, 0], 0)?, Answer::Taken);
     /// assert_eq!(line.badge(0), Badge::Green);
-    /// assert_eq!(line.hear_cut(7, 1, &[4, 0, 40, 0], 0).unwrap_err().answer(), Answer::NotNext);
+    /// assert_eq!(line.hear_cut(7, 1, &[4, 0, 60, 0], 0).unwrap_err().answer(), Answer::NotNext);
     /// assert_eq!(line.reason(0).loss.map(|loss| (loss.expected, loss.met)), Some((3, 7)));
     /// # Ok::<(), mmdh::Refused>(())
     /// ```
     pub fn hear_cut(&mut self, seq: u32, internal: u32, message: &[u8], time: u64) -> Result<Answer, Refused> {
         let expected = self.feed.next();
-        let heard = self.feed.arrive_cut(&mut self.books, seq, internal, message, time).or_refused();
+        let heard = self.feed.arrive_cut(&mut self.tables, seq, internal, message, time).or_refused();
         match heard {
             Ok(_) => self.accepted(message, time),
             Err(refused) => self.refused(refused, (expected, seq), message, time),
@@ -246,7 +249,26 @@ impl Line {
 
     /// The books, to be read.
     pub fn books(&self) -> &Books<'static> {
-        &self.books
+        &self.tables.books
+    }
+
+    /// The price strips, to be read.
+    ///
+    /// ```
+    /// use mmdh::{Connect, Line};
+    /// let mut line = Line::new(1_000, 128)?;
+    /// line.connect(Connect::Fresh, 0)?;
+    /// line.hear_cut(1, 0, &[4, 0, 0x51, 4], 0)?;
+    /// line.hear_cut(2, 0, &[8, 0, 0x4E, 4, 0, 0, 0, 0], 0)?;
+    ///
+    /// // Nominal Price (40) of code 700: 9.730
+    /// line.hear_cut(3, 1, &[12, 0, 40, 0, 0xBC, 2, 0, 0, 2, 0x26, 0, 0], 0)?;
+    /// let strip = line.strips().strip(700)?;
+    /// assert_eq!((strip.nominal, strip.closing), (Some(9_730), None));
+    /// # Ok::<(), mmdh::Refused>(())
+    /// ```
+    pub fn strips(&self) -> &Strips<'static> {
+        &self.tables.strips
     }
 
     /// The feed, to be looked at.

@@ -17,7 +17,7 @@ pub struct MmdhFeed {
     pub heard: u64,
     /// The silence limit, in milliseconds.
     pub limit: u64,
-    /// Whether the table holds all that was sent.
+    /// Whether the tables hold all that was sent.
     pub whole: u64,
     /// Whether the last accepted connect was fresh.
     pub fresh: u64,
@@ -49,8 +49,23 @@ pub struct MmdhRow {
     pub orders: u64,
 }
 
+/// The request that last changed the shape of a call or a struct; [`version`] gives the archive's.
+pub const VERSION: u64 = 2;
+/// Words of one book.
+pub const BOOK_WORDS: usize = 64;
+/// Words of one strip.
+pub const STRIP_WORDS: usize = 12;
 /// Most rows of a side.
 pub const ROWS: usize = 10;
+
+/// The tables that an arrival is lent.
+#[derive(Debug)]
+pub struct Lent<'a> {
+    /// Books, 64 words each.
+    pub books: &'a mut [u64],
+    /// Strips, 12 words each.
+    pub strips: &'a mut [u64],
+}
 
 /// A row of a side that is read at once.
 #[repr(C)]
@@ -76,15 +91,54 @@ pub struct MmdhSide {
     pub row: [MmdhLevel; ROWS],
 }
 
+/// What reading a strip hands back: prices as sent, 0 for what has not come, all 0 with an answer other than 0.
+#[repr(C)]
+#[derive(Clone, Copy, PartialEq, Eq, Debug, Default)]
+pub struct MmdhStrip {
+    /// 15, 4, 18 or 0.
+    pub answer: u64,
+    /// Bit k is set once value k has come; they are numbered from 0 in the order of the fields that follow.
+    pub flags: u64,
+    /// Nominal price, in thousandths.
+    pub nominal: i64,
+    /// Indicative equilibrium price.
+    pub iep: i64,
+    /// Its volume.
+    pub iev: u64,
+    /// Reference price.
+    pub reference: i64,
+    /// Lower price.
+    pub lower: i64,
+    /// Upper price.
+    pub upper: i64,
+    /// Direction of the order imbalance: the number of `N`, `B`, `S` or a space.
+    pub direction: u64,
+    /// Quantity of the order imbalance.
+    pub imbalance: u64,
+    /// Closing price.
+    pub closing: i64,
+}
+
 extern "C" {
+    fn mmdh_version() -> u64;
     fn mmdh_new(limit: u64) -> MmdhGiven;
     fn mmdh_connect(feed: MmdhFeed, resuming: u64, time: u64) -> MmdhGiven;
-    fn mmdh_arrive(feed: MmdhFeed, table: *mut u64, words: usize, bytes: *const u8, len: usize, time: u64)
-        -> MmdhGiven;
+    fn mmdh_arrive(
+        feed: MmdhFeed,
+        books: *mut u64,
+        books_len: usize,
+        strips: *mut u64,
+        strips_len: usize,
+        bytes: *const u8,
+        len: usize,
+        time: u64,
+    ) -> MmdhGiven;
     fn mmdh_arrive_cut(
         feed: MmdhFeed,
-        table: *mut u64,
-        words: usize,
+        books: *mut u64,
+        books_len: usize,
+        strips: *mut u64,
+        strips_len: usize,
         seq: u32,
         internal: u32,
         message: *const u8,
@@ -93,8 +147,16 @@ extern "C" {
     ) -> MmdhGiven;
     fn mmdh_read_row(table: *const u64, words: usize, code: u64, side: u64, rank: u64) -> MmdhRow;
     fn mmdh_read_side(table: *const u64, words: usize, code: u64, side: u64) -> MmdhSide;
+    fn mmdh_read_strip(strips: *const u64, strips_len: usize, code: u64) -> MmdhStrip;
     fn mmdh_badge(phase: u64, heard: u64, limit: u64, time: u64) -> u64;
     fn mmdh_why(phase: u64, heard: u64, limit: u64, time: u64) -> u64;
+}
+
+/// The request that last changed the shape of a call or a struct of the archive; [`VERSION`] is this cover's.
+#[inline]
+pub fn version() -> u64 {
+    // SAFETY: a number by value only; the call touches no memory of ours.
+    unsafe { mmdh_version() }
 }
 
 /// A new feed with a silence limit.
@@ -113,18 +175,21 @@ pub fn connect(feed: MmdhFeed, resuming: u64, time: u64) -> MmdhGiven {
 
 /// The first unit of a stream arrives.
 #[inline]
-pub fn arrive(feed: MmdhFeed, table: &mut [u64], bytes: &[u8], time: u64) -> MmdhGiven {
-    // SAFETY: both pointers come with the lengths of the slices they are from. The call reads and writes only
-    // within the table and reads only within the bytes, keeps neither, and `&mut` says that the two lie apart.
-    unsafe { mmdh_arrive(feed, table.as_mut_ptr(), table.len(), bytes.as_ptr(), bytes.len(), time) }
+pub fn arrive(feed: MmdhFeed, lent: Lent<'_>, bytes: &[u8], time: u64) -> MmdhGiven {
+    let (books, strips, len) = (lent.books.len(), lent.strips.len(), bytes.len());
+    let (at_books, at_strips) = (lent.books.as_mut_ptr(), lent.strips.as_mut_ptr());
+    // SAFETY: all pointers come with the lengths of the slices they are from. The call reads and writes only within the
+    // tables and reads only within the bytes, keeps none of them, and `&mut` says that they lie apart.
+    unsafe { mmdh_arrive(feed, at_books, books, at_strips, strips, bytes.as_ptr(), len, time) }
 }
 
 /// A message already cut arrives, with the header's two numbers.
 #[inline]
-pub fn arrive_cut(feed: MmdhFeed, table: &mut [u64], seq: u32, internal: u32, message: &[u8], time: u64) -> MmdhGiven {
-    let (words, len) = (table.len(), message.len());
+pub fn arrive_cut(feed: MmdhFeed, lent: Lent<'_>, seq: u32, internal: u32, message: &[u8], time: u64) -> MmdhGiven {
+    let (books, strips, len) = (lent.books.len(), lent.strips.len(), message.len());
+    let (at_books, at_strips) = (lent.books.as_mut_ptr(), lent.strips.as_mut_ptr());
     // SAFETY: as for `arrive`, with the message for the bytes.
-    unsafe { mmdh_arrive_cut(feed, table.as_mut_ptr(), words, seq, internal, message.as_ptr(), len, time) }
+    unsafe { mmdh_arrive_cut(feed, at_books, books, at_strips, strips, seq, internal, message.as_ptr(), len, time) }
 }
 
 /// Reads a row by code, side (0 bid, 1 offer) and rank (1 to 10).
@@ -139,6 +204,13 @@ pub fn read_row(table: &[u64], code: u64, side: u64, rank: u64) -> MmdhRow {
 pub fn read_side(table: &[u64], code: u64, side: u64) -> MmdhSide {
     // SAFETY: as for `read_row`.
     unsafe { mmdh_read_side(table.as_ptr(), table.len(), code, side) }
+}
+
+/// Reads a strip by code.
+#[inline]
+pub fn read_strip(strips: &[u64], code: u64) -> MmdhStrip {
+    // SAFETY: as for `read_row`.
+    unsafe { mmdh_read_strip(strips.as_ptr(), strips.len(), code) }
 }
 
 /// The badge: 0 Stale, 1 Green, 2 Filling.

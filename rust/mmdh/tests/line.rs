@@ -1,9 +1,9 @@
 //! A line: bytes in any pieces, what it saw, and the life of a connection.
 
 use exchange::dice::Dice;
-use exchange::{book_message, message, refresh_complete, session, unit, Entry};
+use exchange::{book_message, imbalance, message, nominal, refresh_complete, session, unit, Entry};
 use mmdh::single::Feed;
-use mmdh::{Answer, Badge, Books, Connect, Line, Phase, Why};
+use mmdh::{Answer, Badge, Connect, Line, Phase, Tables, Why};
 
 /// SendKey, a logon with this status, and what follows it from SeqNum 3 on.
 fn session_bytes(status: u8, messages: &[(u32, Vec<u8>)]) -> Vec<u8> {
@@ -34,11 +34,11 @@ fn live(time: u64) -> Line {
 fn any_pieces_are_one_stream() {
     let morning = std::fs::read("../../captures/morning.bin").expect("the capture");
     let mut feed = Feed::new(1_000).expect("listed");
-    let mut books = Books::with_slots(128);
+    let mut tables = Tables::with_slots(128);
     assert!(feed.connect(Connect::Fresh, 7).is_accepted());
     let (mut at, mut units) = (0, 0);
     while at < morning.len() {
-        let arrival = feed.arrive(&mut books, &morning[at..], 7);
+        let arrival = feed.arrive(&mut tables, &morning[at..], 7);
         assert!(arrival.answer.is_accepted());
         at += arrival.used;
         units += 1;
@@ -53,7 +53,8 @@ fn any_pieces_are_one_stream() {
             heard += line.hear(piece, 7).expect("accepted").units;
             rest = after;
         }
-        assert_eq!((line.feed(), line.books().words()), (&feed, books.words()));
+        assert_eq!((line.feed(), line.books().words()), (&feed, tables.books.words()));
+        assert_eq!(line.strips().words(), tables.strips.words());
         assert_eq!((heard, line.units(), line.waiting()), (units, units, 0));
     }
 }
@@ -91,6 +92,7 @@ fn damaged_streams_end_alike_in_any_pieces() {
         let (first, line) = followed(&stream, 3_000, &mut dice);
         assert_eq!((first, line.feed(), line.units()), (whole_first, whole.feed(), whole.units()));
         assert_eq!((line.reason(8), line.books().words()), (whole.reason(8), whole.books().words()));
+        assert_eq!(line.strips().words(), whole.strips().words());
         met.insert(first.map(Answer::number));
     }
     assert!(met.len() >= 5, "refusals met: {:?}", met);
@@ -98,7 +100,8 @@ fn damaged_streams_end_alike_in_any_pieces() {
 
 #[test]
 fn each_unit_is_shown() {
-    let bytes = session_bytes(0, &[(1, bid(5, 1, 100)), (1, bid(5, 1, 100)), (2, message(40, 12))]);
+    let bytes =
+        session_bytes(0, &[(1, bid(5, 1, 100)), (1, bid(5, 1, 100)), (2, message(60, 52)), (3, nominal(5, 90))]);
     let (mut line, mut shown) = (connected(0), Vec::new());
     for piece in bytes.chunks(11) {
         let each = |unit: &mmdh::Unit<'_>| shown.push((unit.number, unit.answer, unit.bytes.len(), unit.feed.phase()));
@@ -109,7 +112,8 @@ fn each_unit_is_shown() {
         (2, Answer::Taken, 28, Phase::Live),
         (3, Answer::Taken, 56, Phase::Live),
         (4, Answer::Seen, 56, Phase::Live),
-        (5, Answer::Passed, 32, Phase::Live),
+        (5, Answer::Passed, 72, Phase::Live),
+        (6, Answer::Taken, 32, Phase::Live),
     ];
     assert_eq!(shown, wanted);
 }
@@ -176,6 +180,40 @@ fn an_emptied_book_stays_empty_over_a_resuming_connect() {
     assert_eq!((line.badge(5_020), prices(&line)), (Badge::Green, vec![]));
     line.hear(&unit(5, 3, &bid(5, 1, 90)), 5_030).expect("accepted");
     assert_eq!(prices(&line), [90]);
+}
+
+#[test]
+fn a_strip_stays_over_a_resuming_connect_and_is_cleared_with_the_books() {
+    let mut line = live(5_000);
+    line.hear(&unit(4, 2, &nominal(5, 90)), 5_000).expect("accepted");
+    assert_eq!(line.reconnect(5_010), Ok(Connect::Resuming));
+    // the nominal price comes again and is Seen, though it is another one
+    line.hear(&session_bytes(0, &[(2, nominal(5, 80)), (3, imbalance(6, b'B', 400))]), 5_020).expect("accepted");
+    let nominals = |line: &Line| [5, 6].map(|code| line.strips().strip(code).map(|strip| strip.nominal).ok());
+    assert_eq!(nominals(&line), [Some(Some(90)), Some(None)]);
+    assert_eq!(line.strips().codes().collect::<Vec<_>>(), [5, 6]);
+    line.connect(Connect::Fresh, 5_030).expect("accepted");
+    assert_eq!(nominals(&line)[0], Some(Some(90)), "until the logon");
+    line.hear(&session_bytes(101, &[(0, nominal(6, 70))]), 5_030).expect("accepted");
+    assert_eq!((nominals(&line), line.books().codes().count()), ([None, Some(Some(70))], 0));
+}
+
+#[test]
+fn a_direction_that_is_not_listed_loses_the_line() {
+    let mut line = live(5_000);
+    assert!(line.hear(&unit(4, 2, &imbalance(5, b'X', 400)), 5_000).is_err());
+    let words =
+        "lost: a status, code, side, level, action or direction is not listed (answer 15), unit 4, type 56, SeqNum 4";
+    assert_eq!(line.reason(5_000).to_string(), words);
+    assert_eq!(line.reconnect(5_001), Ok(Connect::Fresh));
+}
+
+#[test]
+fn a_line_needs_as_many_strips_as_codes() {
+    let mut line = connected(0);
+    let strips: Vec<(u32, Vec<u8>)> = (1..=5).map(|code| (code, nominal(code, 1))).collect();
+    assert_eq!(line.hear(&session_bytes(0, &strips), 0).unwrap_err().answer(), Answer::Full);
+    assert_eq!((line.strips().codes().count(), line.books().codes().count()), (4, 0));
 }
 
 #[test]
