@@ -1,13 +1,14 @@
 //! What a script works on: one feed and the tables lent to it, through the C calls.
 
 use crate::words::Words;
-use mmdh::raw::{self, MmdhFeed, MmdhGiven};
+use mmdh::raw::{self, Lent, MmdhFeed, MmdhGiven};
 
-/// One feed, once there is one, and the table of its books.
+/// One feed, once there is one, and the tables of its books and of their strips.
 #[derive(Default)]
 pub struct Desk {
     feed: Option<MmdhFeed>,
     books: Vec<u64>,
+    strips: Vec<u64>,
 }
 
 impl Desk {
@@ -15,7 +16,8 @@ impl Desk {
     pub fn run(&mut self, mut words: Words<'_>) -> Result<Option<String>, String> {
         let printed = match words.operation() {
             "table" => self.table(&mut words).map(|()| None),
-            "poke" => self.poke(&mut words).map(|()| None),
+            "poke" => poke(&mut self.books, &mut words).map(|()| None),
+            "pokestrip" => poke(&mut self.strips, &mut words).map(|()| None),
             "feed" => self.made(&mut words).map(|()| None),
             "new" => self.new_feed(&mut words).map(Some),
             "connect" => self.connect(&mut words).map(Some),
@@ -24,32 +26,34 @@ impl Desk {
             "badge" => self.badge(&mut words).map(Some),
             "badgec" => badge_of_numbers(&mut words).map(Some),
             "row" => self.row(&mut words).map(Some),
-            "digest" => words.end().map(|()| Some(format!("digest {}", digest(&self.books)))),
-            "words" => words.end().map(|()| Some(set_words(&self.books))),
+            "strip" => self.strip(&mut words).map(Some),
+            "digest" => words.end().map(|()| Some(format!("digest {}", self.each_table(digest).join(" ")))),
+            "words" => words.end().map(|()| Some(self.each_table(set_words).join("\n"))),
             unknown => Err(format!("{} is no operation", unknown)),
         }?;
         Ok(printed)
     }
 
-    /// Strips and tape may be named; they are not lent.
+    /// Strips that are not named have no words. A tape may be named; it is not lent.
     fn table(&mut self, words: &mut Words<'_>) -> Result<(), String> {
         let books = words.length("BOOKS")?;
+        let strips = if words.left() > 0 { words.length("STRIPS")? } else { 0 };
         if words.left() > 0 {
-            words.length("STRIPS")?;
             words.length("TAPE")?;
         }
         words.end()?;
         self.books = vec![0; books];
+        self.strips = vec![0; strips];
         Ok(())
     }
 
-    fn poke(&mut self, words: &mut Words<'_>) -> Result<(), String> {
-        let (at, value) = (words.number("AT")?, words.number("VALUE")?);
-        words.end()?;
-        let length = self.books.len();
-        let word = usize::try_from(at).ok().and_then(|at| self.books.get_mut(at));
-        *word.ok_or_else(|| format!("poke: there is no word {} in a table of {}", at, length))? = value;
-        Ok(())
+    fn lend(&mut self) -> Lent<'_> {
+        Lent { books: &mut self.books, strips: &mut self.strips }
+    }
+
+    /// What is told of each table that is lent.
+    fn each_table(&self, told: impl Fn(&[u64]) -> String) -> [String; 2] {
+        [told(&self.books), told(&self.strips)]
     }
 
     fn made(&mut self, words: &mut Words<'_>) -> Result<(), String> {
@@ -94,7 +98,7 @@ impl Desk {
     fn arrive(&mut self, words: &mut Words<'_>) -> Result<String, String> {
         let (now, bytes) = (words.number("NOW")?, words.bytes("BYTES")?);
         words.end()?;
-        let given = raw::arrive(self.feed()?, &mut self.books, &bytes, now);
+        let given = raw::arrive(self.feed()?, self.lend(), &bytes, now);
         Ok(self.after("arrive", given, true))
     }
 
@@ -102,7 +106,7 @@ impl Desk {
         let (now, seq, internal) = (words.number("NOW")?, words.short("SEQ")?, words.short("INTERNAL")?);
         let message = words.bytes("BYTES")?;
         words.end()?;
-        let given = raw::arrive_cut(self.feed()?, &mut self.books, seq, internal, &message, now);
+        let given = raw::arrive_cut(self.feed()?, self.lend(), seq, internal, &message, now);
         Ok(self.after("cut", given, false))
     }
 
@@ -119,6 +123,26 @@ impl Desk {
         let row = raw::read_row(&self.books, code, side, rank);
         Ok(format!("row {} {} {} {}", row.answer, row.price, row.quantity, row.orders))
     }
+
+    fn strip(&self, words: &mut Words<'_>) -> Result<String, String> {
+        let code = words.number("CODE")?;
+        words.end()?;
+        let strip = raw::read_strip(&self.strips, code);
+        let auction = format!("{} {} {}", strip.nominal, strip.iep, strip.iev);
+        let band = format!("{} {} {}", strip.reference, strip.lower, strip.upper);
+        let rest = format!("{} {} {}", strip.direction, strip.imbalance, strip.closing);
+        Ok(format!("strip {} {} {} {} {}", strip.answer, strip.flags, auction, band, rest))
+    }
+}
+
+fn poke(table: &mut [u64], words: &mut Words<'_>) -> Result<(), String> {
+    let (at, value) = (words.number("AT")?, words.number("VALUE")?);
+    words.end()?;
+    let length = table.len();
+    let word = usize::try_from(at).ok().and_then(|at| table.get_mut(at));
+    let missing = || format!("{}: there is no word {} in a table of {}", words.operation(), at, length);
+    *word.ok_or_else(missing)? = value;
+    Ok(())
 }
 
 fn badge_of_numbers(words: &mut Words<'_>) -> Result<String, String> {
