@@ -2,7 +2,8 @@
 //! feeds and words, and not left to the twin.
 
 use crate::pair::Pair;
-use crate::scene::{self, SLOT};
+use crate::scene::{self, SLOT, STRIP};
+use crate::tables::Tables;
 use crate::tally::Meets;
 use exchange::dice::Dice;
 use exchange::{book_message, message, session, unit, Entry, CHANGE, DELETE};
@@ -18,6 +19,17 @@ const OPEN: [(MmdhFeed, u32); 2] = [(LIVE, 41), (REFRESHING, 0)];
 
 /// Words behind the slots.
 const TAIL: [u64; 5] = [7; 5];
+
+/// Books, and beside them strips that no book message looks at: of 700 a sound one, of 5 an unsound one, a free slot that is
+/// not zero.
+fn beside(books: &[u64]) -> Tables {
+    let mut strips = vec![0; 3 * STRIP];
+    strips[..3].copy_from_slice(&[700, 1, (1 << 31) + 9_730]);
+    strips[STRIP..STRIP + 2].copy_from_slice(&[5, 512]);
+    strips[2 * STRIP + 1] = 9;
+    strips.extend(TAIL);
+    Tables { books: books.to_vec(), strips }
+}
 
 /// Lengths of tables in random runs, and messages of a run.
 const LENGTHS: [usize; 8] = [0, 63, 64, 128, 192, 200, 320, 640];
@@ -111,15 +123,16 @@ fn feed_after(feed: MmdhFeed, internal: u32, answer: u64) -> MmdhFeed {
 
 /// A message to one feed, as a stream and already cut: the answer, the bytes used, the feed and every word.
 fn sent(pair: &mut Pair, feed: MmdhFeed, internal: u32, message: &[u8], before: &[u64], answer: u64, after: &[u64]) {
+    let (before, after) = (beside(before), beside(after));
     let used = if answer <= 2 { (20 + message.len()) as u64 } else { 0 };
     let wanted = MmdhGiven { answer, used, feed: feed_after(feed, internal, answer) };
     let input = || format!("{:?}, internal {}, {:02x?}", feed, internal, message);
-    let given = pair.arrive(feed, before, &unit(7, internal, message), TIME);
-    let words = pair.after().to_vec();
-    pair.tally.same(&(given, &words[..]), &(wanted, after), input);
-    let given = pair.arrive_cut(feed, before, 7, internal, message, TIME);
-    let words = pair.after().to_vec();
-    pair.tally.same(&(given, &words[..]), &(MmdhGiven { used: 0, ..wanted }, after), input);
+    let given = pair.arrive(feed, &before, &unit(7, internal, message), TIME);
+    let words = pair.after().clone();
+    pair.tally.same(&(given, &words), &(wanted, &after), input);
+    let given = pair.arrive_cut(feed, &before, 7, internal, message, TIME);
+    let words = pair.after().clone();
+    pair.tally.same(&(given, &words), &(MmdhGiven { used: 0, ..wanted }, &after), input);
 }
 
 /// NoEntries 0 for a code, in Live and in Refreshing.
@@ -235,10 +248,10 @@ fn filled_again(pair: &mut Pair) {
     }
 }
 
-/// A feed and its table, message after message.
+/// A feed and its tables, message after message.
 struct Walk {
     feed: MmdhFeed,
-    table: Vec<u64>,
+    tables: Tables,
 }
 
 impl Walk {
@@ -254,9 +267,9 @@ impl Walk {
     }
 
     fn arrive(&mut self, pair: &mut Pair, internal: u32, message: &[u8]) -> MmdhGiven {
-        let given = pair.arrive(self.feed, &self.table, &unit(self.feed.next as u32, internal, message), TIME);
+        let given = pair.arrive(self.feed, &self.tables, &unit(self.feed.next as u32, internal, message), TIME);
         self.feed = given.feed;
-        self.table = pair.after().to_vec();
+        self.tables.copy(pair.after());
         given
     }
 
@@ -278,51 +291,52 @@ fn first_bid() -> Vec<u8> {
 /// empties nothing.
 fn resumed(pair: &mut Pair) {
     let empty = |code| book_message(code, &[]);
-    let mut walk = Walk { feed: raw::new(1_000).feed, table: vec![0; 2 * SLOT] };
+    let mut walk = Walk { feed: raw::new(1_000).feed, tables: Tables::zeros(2 * SLOT, 0) };
     let answers = walk.session(pair, 0, &[(1, empty(700)), (2, first_bid()), (3, empty(700)), (4, empty(700))]);
     pair.tally.same(&answers, &vec![0; 7], || "filled, and emptied twice".to_string());
     let kept = [book(700, 0, 0), vec![0; SLOT]].concat();
-    pair.tally.same(&walk.table, &kept, || "the slot stays its own, and no other is taken".to_string());
+    pair.tally.same(&walk.tables.books, &kept, || "the slot stays its own, and no other is taken".to_string());
     let answers = walk.session(pair, 1, &[(3, empty(700)), (4, empty(700))]);
     pair.tally.same(&answers, &vec![0, 0, 0, 1, 1], || "a resuming connect".to_string());
-    pair.tally.same(&walk.table, &kept, || "still empty after a resuming connect".to_string());
+    pair.tally.same(&walk.tables.books, &kept, || "still empty after a resuming connect".to_string());
     let answers = [walk.send(pair, 5, &first_bid()), walk.send(pair, 4, &empty(700))];
     let filled = [book(700, 1, 0), vec![0; SLOT]].concat();
-    pair.tally.same(&(answers, &walk.table), &([0, 1], &filled), || "filled again, and Seen".to_string());
+    pair.tally.same(&(answers, &walk.tables.books), &([0, 1], &filled), || "filled again, and Seen".to_string());
 }
 
 /// After an 18 nothing whole is left to resume from; a fresh logon clears the table, and the message is then one for a code
 /// without a book.
 fn spoilt(pair: &mut Pair) {
     let unsound = changed(book(700, 1, 0), 3, 1);
-    let mut walk = Walk { feed: LIVE, table: unsound.clone() };
+    let mut walk = Walk { feed: LIVE, tables: Tables::of_books(&unsound) };
     let empty = book_message(700, &[]);
     let answers = [walk.send(pair, 41, &empty), walk.send(pair, 41, &empty), walk.connect(pair, 1)];
-    pair.tally.same(&(answers, &walk.table), &([18, 11, 20], &unsound), || "an unsound book".to_string());
+    pair.tally.same(&(answers, &walk.tables.books), &([18, 11, 20], &unsound), || "an unsound book".to_string());
     let answers = walk.session(pair, 0, &[(1, empty), (2, first_bid())]);
     pair.tally.same(&answers, &vec![0; 5], || "a fresh connect".to_string());
-    pair.tally.same(&walk.table, &book(700, 1, 0), || "the book after a fresh connect".to_string());
+    pair.tally.same(&walk.tables.books, &book(700, 1, 0), || "the book after a fresh connect".to_string());
 }
 
 /// Book messages to a random table until one is refused, half of them without entries.
 fn run(pair: &mut Pair, dice: &mut Dice) {
     let words = dice.of(&LENGTHS);
-    let mut walk = Walk { feed: dice.of(&OPEN).0, table: scene::table(dice, words) };
+    let mut walk = Walk { feed: dice.of(&OPEN).0, tables: scene::tables(dice, words) };
     for _ in 0..MESSAGES {
         let code = scene::code(dice);
-        let entries = if dice.once_in(2) { Vec::new() } else { scene::entries(dice, &walk.table, code) };
+        let entries = if dice.once_in(2) { Vec::new() } else { scene::entries(dice, &walk.tables.books, code) };
         let message = book_message(code as u32, &entries);
         let seen = walk.feed.phase == 4 && dice.once_in(12);
         let internal = if walk.feed.phase == 4 { walk.feed.internal as u32 + u32::from(!seen) } else { 0 };
-        let before = walk.table.clone();
+        let before = walk.tables.clone();
         pair.tuned(walk.feed, &before, &unit(walk.feed.next as u32, internal, &message), TIME);
-        let (phase, met) = (walk.feed.phase, meets(&before, &message));
+        let (phase, met) = (walk.feed.phase, meets(&before.books, &message));
         let given = walk.arrive(pair, internal, &message);
         pair.tally.emptying(phase, met, &given);
         if let Some(meets) = met {
-            let wanted = if seen { (1, before) } else { ruled(meets, &before, code) };
-            let good = (given.answer, &walk.table) == (wanted.0, &wanted.1);
-            pair.tally.holds(good, || format!("{:?}, seen {}: {} for {}", meets, seen, given.answer, wanted.0));
+            let (answer, books) = if seen { (1, before.books) } else { ruled(meets, &before.books, code) };
+            let wanted = (answer, &Tables { books, strips: before.strips });
+            let good = (given.answer, &walk.tables) == wanted;
+            pair.tally.holds(good, || format!("{:?}, seen {}: {} for {}", meets, seen, given.answer, answer));
         }
         if given.answer > 2 {
             return;

@@ -1,6 +1,7 @@
 //! Document 01's examples, of the library and of the twin alike.
 
 use crate::pair::Pair;
+use crate::tables::Tables;
 use exchange::{book_message, message, session, unit, Entry, CLEAR};
 use mmdh::raw::MmdhFeed;
 
@@ -30,15 +31,15 @@ pub fn check(pair: &mut Pair) {
 
 /// The answer to a book message in Live; the words after it are the pair's.
 fn taken(pair: &mut Pair, table: &[u64], message: &[u8], wanted: u64) {
-    let given = pair.arrive(LIVE, table, &unit(3, 1, message), 0);
+    let given = pair.arrive(LIVE, &Tables::of_books(table), &unit(3, 1, message), 0);
     pair.tally.same(&given.answer, &wanted, || format!("{:02x?}", message));
-    let untouched = wanted == 0 || pair.after() == table;
+    let untouched = wanted == 0 || pair.after().books == table;
     pair.tally.holds(untouched, || "a refused arrival wrote to the table".to_string());
 }
 
 fn first(pair: &mut Pair) -> Vec<u64> {
     taken(pair, &[0; 128], &FIRST, 0);
-    let after = pair.after().to_vec();
+    let after = pair.after().books.clone();
     pair.tally.same(&after[..7].to_vec(), &vec![700, 1, 0, 0, 2_147_493_378, 4_000, 2], || "example 1".to_string());
     pair.tally.holds(after[7..].iter().all(|&word| word == 0), || "example 1, the rest".to_string());
     after
@@ -53,9 +54,9 @@ fn second(pair: &mut Pair, table: &[u64]) {
 fn third(pair: &mut Pair) {
     let ten: Vec<Entry> = (0..10).map(|at| bid(at + 1, 9_730 - i32::from(at))).collect();
     taken(pair, &[0; 64], &book_message(700, &ten), 0);
-    let table = pair.after().to_vec();
+    let table = pair.after().books.clone();
     taken(pair, &table, &book_message(700, &[bid(1, 9_740)]), 0);
-    let after = pair.after().to_vec();
+    let after = pair.after().books.clone();
     pair.tally.same(&after[1], &10, || "example 3".to_string());
     pair.tally.same(&after[7..34].to_vec(), &table[4..31].to_vec(), || "example 3, the rows moved down".to_string());
 }
@@ -84,7 +85,7 @@ fn ninth(pair: &mut Pair) {
     let mut feed = pair.new_feed(1_000).feed;
     feed = pair.connect(feed, 0, 1).feed;
     for (seq, message) in [(1, message(1105, 4)), (2, session(1102, 101)), (3, session(1202, 0))] {
-        feed = pair.arrive(feed, &[0; 64], &unit(seq, 0, &message), 2).feed;
+        feed = pair.arrive(feed, &Tables::zeros(64, 12), &unit(seq, 0, &message), 2).feed;
     }
     let badge = pair.badge(feed.phase, feed.heard, feed.limit, 2);
     pair.tally.same(&badge, &2, || "filling, not green, after status 101".to_string());

@@ -11,7 +11,7 @@ pub struct History {
     fresh: bool,
     complete: bool,
     heard: u64,
-    /// The book messages taken since the last clearing.
+    /// The book and strip messages taken since the last clearing.
     pub taken: Vec<Vec<u8>>,
 }
 
@@ -50,7 +50,7 @@ impl History {
             (1102, Some(101)) => self.taken.clear(),
             (203, _) => self.complete = true,
             (1103, _) => self.complete = false,
-            (53, _) => self.taken.push(message.to_vec()),
+            (40 | 41 | 43 | 53 | 56 | 62, _) => self.taken.push(message.to_vec()),
             _ => {}
         }
     }

@@ -1,4 +1,4 @@
-//! The library against the twin, call by call; the vectors, document 01's examples and emptied books.
+//! The library against the twin, call by call; the vectors, document 01's examples, emptied books and price strips.
 //! The last line is 'N passed, M failed'.
 
 #![forbid(unsafe_code)]
@@ -14,6 +14,8 @@ mod runs;
 mod scene;
 mod sides;
 mod singles;
+mod strips;
+mod tables;
 mod tally;
 
 use exchange::dice::Dice;
@@ -65,6 +67,7 @@ fn main() {
     program::check_damaged(&mut pair.tally, &mut dice, &inputs, options.rounds / 2_000);
     examples::check(&mut pair);
     emptied::check(&mut pair, &mut dice, options.rounds / 100);
+    strips::check(&mut pair, &mut dice, options.rounds / 100);
     grids::check(&mut pair, &mut dice);
     badges::check(&mut pair, &mut dice, options.rounds / 4);
     sides::check(&mut pair.tally, &mut dice, options.rounds / 1_000);

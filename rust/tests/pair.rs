@@ -1,8 +1,9 @@
 //! One call made twice: through the C calls and to the twin, then compared in answer, feed, bytes used and every word.
 
+use crate::tables::{words, Tables};
 use crate::tally::{Call, Tally};
-use mmdh::raw::{self, MmdhFeed, MmdhGiven, MmdhLevel, MmdhRow, MmdhSide, ROWS};
-use twin::{Feed, Given, Phase, Read, ReadSide};
+use mmdh::raw::{self, MmdhFeed, MmdhGiven, MmdhLevel, MmdhRow, MmdhSide, MmdhStrip, ROWS};
+use twin::{Feed, Given, Phase, Read, ReadSide, ReadStrip};
 
 /// The twin's feed of plain numbers.
 pub fn twin_feed(plain: MmdhFeed) -> Feed {
@@ -38,6 +39,22 @@ fn plain_row(read: Read) -> MmdhRow {
     MmdhRow { answer: read.answer as u64, price: read.price, quantity: read.quantity, orders: read.orders }
 }
 
+fn plain_strip(read: ReadStrip) -> MmdhStrip {
+    MmdhStrip {
+        answer: read.answer as u64,
+        flags: read.flags,
+        nominal: read.nominal,
+        iep: read.iep,
+        iev: read.iev,
+        reference: read.reference,
+        lower: read.lower,
+        upper: read.upper,
+        direction: read.direction,
+        imbalance: read.imbalance,
+        closing: read.closing,
+    }
+}
+
 fn plain_side(read: ReadSide) -> MmdhSide {
     let mut side = MmdhSide { answer: read.answer as u64, count: read.rows.len() as u64, ..MmdhSide::default() };
     for (level, (price, quantity, orders)) in side.row.iter_mut().zip(read.rows) {
@@ -53,12 +70,12 @@ fn by_singles(answer: u64, singles: &[MmdhRow; ROWS]) -> MmdhSide {
     MmdhSide { answer, count, row }
 }
 
-/// Both sides' copies of a table, kept for use again.
+/// Both sides' copies of the tables, kept for use again.
 #[derive(Default)]
 pub struct Pair {
     pub tally: Tally,
-    ours: Vec<u64>,
-    twins: Vec<u64>,
+    ours: Tables,
+    twins: Tables,
 }
 
 impl Pair {
@@ -78,52 +95,52 @@ impl Pair {
         ours
     }
 
-    /// An arrival on a copy of the table; the library's words after it are in `after`.
-    pub fn arrive(&mut self, feed: MmdhFeed, table: &[u64], bytes: &[u8], time: u64) -> MmdhGiven {
-        self.lend(table);
-        let ours = raw::arrive(feed, &mut self.ours, bytes, time);
-        let twins = twin::arrive(twin_feed(feed), &mut self.twins, bytes, time);
+    /// An arrival on a copy of the tables; the library's words after it are in `after`.
+    pub fn arrive(&mut self, feed: MmdhFeed, tables: &Tables, bytes: &[u8], time: u64) -> MmdhGiven {
+        self.copy(tables);
+        let ours = raw::arrive(feed, self.ours.lend(), bytes, time);
+        let twins = twin::arrive(twin_feed(feed), self.twins.lend_twin(), bytes, time);
         self.tally.met(Call::Arrive, ours.answer);
         self.compare(
             &ours,
             &plain_given(twins),
             || format!("arrive {:?} time {}\n  bytes {:02x?}", feed, time, bytes),
-            table,
+            tables,
         );
         ours
     }
 
-    /// A message already cut, on a copy of the table.
+    /// A message already cut, on a copy of the tables.
     pub fn arrive_cut(
         &mut self,
         feed: MmdhFeed,
-        table: &[u64],
+        tables: &Tables,
         seq: u32,
         internal: u32,
         message: &[u8],
         time: u64,
     ) -> MmdhGiven {
-        self.lend(table);
-        let ours = raw::arrive_cut(feed, &mut self.ours, seq, internal, message, time);
-        let twins = twin::arrive_cut(twin_feed(feed), &mut self.twins, seq, internal, message, time);
+        self.copy(tables);
+        let ours = raw::arrive_cut(feed, self.ours.lend(), seq, internal, message, time);
+        let twins = twin::arrive_cut(twin_feed(feed), self.twins.lend_twin(), seq, internal, message, time);
         let input = || {
             format!("arrive_cut {:?} seq {} internal {} time {}\n  message {:02x?}", feed, seq, internal, time, message)
         };
         self.tally.met(Call::ArriveCut, ours.answer);
-        self.compare(&ours, &plain_given(twins), input, table);
+        self.compare(&ours, &plain_given(twins), input, tables);
         ours
     }
 
     /// The tuned twin against the plain one.
-    pub fn tuned(&mut self, feed: MmdhFeed, table: &[u64], bytes: &[u8], time: u64) {
-        self.lend(table);
+    pub fn tuned(&mut self, feed: MmdhFeed, tables: &Tables, bytes: &[u8], time: u64) {
+        self.copy(tables);
         let mut after = twin_feed(feed);
-        let (answer, used) = twin::tuned::arrive(&mut after, &mut self.ours, bytes, time);
-        let twins = twin::arrive(twin_feed(feed), &mut self.twins, bytes, time);
+        let (answer, used) = twin::tuned::arrive(&mut after, self.ours.lend_twin(), bytes, time);
+        let twins = twin::arrive(twin_feed(feed), self.twins.lend_twin(), bytes, time);
         let tuned = Given { answer, used, feed: after };
         let good = tuned == twins && self.ours == self.twins;
         self.tally
-            .holds(good, || format!("tuned {:?} time {}\n  bytes {:02x?}\n  {}", feed, time, bytes, words(table)));
+            .holds(good, || format!("tuned {:?} time {}\n  bytes {:02x?}\n  {}", feed, time, bytes, both(tables)));
     }
 
     pub fn read_row(&mut self, table: &[u64], code: u64, side: u64, rank: u64) -> MmdhRow {
@@ -152,6 +169,14 @@ impl Pair {
         self.tally.same(&singles.map(|row| row.answer), &wanted, input);
     }
 
+    pub fn read_strip(&mut self, strips: &[u64], code: u64) -> MmdhStrip {
+        let ours = raw::read_strip(strips, code);
+        self.tally.met(Call::ReadStrip, ours.answer);
+        let twins = plain_strip(twin::read_strip(strips, code));
+        self.tally.same(&ours, &twins, || format!("read_strip {}\n  {}", code, words(strips)));
+        ours
+    }
+
     pub fn badge(&mut self, phase: u64, heard: u64, limit: u64, time: u64) -> u64 {
         let ours = raw::badge(phase, heard, limit, time);
         let input = || format!("badge phase {} heard {} limit {} time {}", phase, heard, limit, time);
@@ -171,38 +196,32 @@ impl Pair {
         self.tally.same(&(badge == 1, badge == 2), &(green, filling), || format!("badge {} and {}", badge, input()));
     }
 
-    /// The library's table after the last arrival.
-    pub fn after(&self) -> &[u64] {
+    /// The library's tables after the last arrival.
+    pub fn after(&self) -> &Tables {
         &self.ours
     }
 
-    fn lend(&mut self, table: &[u64]) {
-        for copy in [&mut self.ours, &mut self.twins] {
-            copy.clear();
-            copy.extend_from_slice(table);
-        }
+    fn copy(&mut self, tables: &Tables) {
+        self.ours.copy(tables);
+        self.twins.copy(tables);
     }
 
-    fn compare(&mut self, ours: &MmdhGiven, twins: &MmdhGiven, input: impl FnOnce() -> String, table: &[u64]) {
+    fn compare(&mut self, ours: &MmdhGiven, twins: &MmdhGiven, input: impl FnOnce() -> String, tables: &Tables) {
         let good = ours == twins && self.ours == self.twins;
         let (after, wanted) = (&self.ours, &self.twins);
         self.tally.holds(good, || {
-            let first = after.iter().zip(wanted).position(|(a, b)| a != b);
             format!(
                 "{}\n  {}\n  library {:?}\n  twin    {:?}\n  first word that differs: {:?}",
                 input(),
-                words(table),
+                both(tables),
                 ours,
                 twins,
-                first.map(|at| (at, after[at], wanted[at]))
+                after.differs(wanted)
             )
         });
     }
 }
 
-/// A table's length and its words that are not zero.
-fn words(table: &[u64]) -> String {
-    let set: Vec<String> =
-        table.iter().enumerate().filter(|(_, &w)| w != 0).take(200).map(|(at, w)| format!("{}:{}", at, w)).collect();
-    format!("table of {} words: {}", table.len(), set.join(" "))
+fn both(tables: &Tables) -> String {
+    format!("books: {}\n  strips: {}", words(&tables.books), words(&tables.strips))
 }

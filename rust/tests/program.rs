@@ -4,7 +4,7 @@ use crate::tally::Tally;
 use exchange::dice::Dice;
 use exchange::{message, session, unit};
 use mmdh::single::Feed;
-use mmdh::{Books, Connect, Rows};
+use mmdh::{Connect, Rows, Tables};
 use std::fs;
 use std::path::Path;
 
@@ -13,16 +13,17 @@ const BUFFER: usize = 65_536;
 /// All of the program's output.
 pub fn run(input: &[u8]) -> String {
     let mut feed = Feed::new(1_000).expect("a limit of 1,000 is listed");
-    let mut books = Books::with_slots(128);
+    let mut tables = Tables::with_slots(128);
     let mut last = feed.connect(Connect::Fresh, 0);
     let (mut at, mut units) = (0, 0);
     while last.is_accepted() {
         let held = &input[at..input.len().min(at + BUFFER)];
-        let arrival = feed.arrive(&mut books, held, 0);
+        let arrival = feed.arrive(&mut tables, held, 0);
         last = arrival.answer;
         at += arrival.used;
         units += u64::from(last.is_accepted());
     }
+    let books = &tables.books;
     let mut lines = String::from("code side rank price quantity orders\n");
     for code in books.codes() {
         for (name, rows) in [("B", books.bids(code)), ("O", books.offers(code))] {

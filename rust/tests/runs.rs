@@ -1,10 +1,12 @@
-//! Whole runs: many events on one feed and one table, library and twin each going on with its own.
+//! Whole runs: many events on one feed and its tables, library and twin each going on with its own.
 
 use crate::emptied::meets;
 use crate::history::{History, LIMIT};
 use crate::pair::{plain_feed, Pair};
-use crate::scene;
-use crate::tally::Call;
+use crate::scene::{self, STRIP, STRIPS};
+use crate::strips;
+use crate::tables::Tables;
+use crate::tally::{Call, Meets, StripMeets};
 use exchange::dice::Dice;
 use exchange::market::Market;
 use exchange::{message, refresh_complete, session};
@@ -14,23 +16,24 @@ use twin::Given;
 /// Both sides of a run, the clock, and what has happened so far.
 struct Run {
     feed: MmdhFeed,
-    table: Vec<u64>,
+    tables: Tables,
     twin_feed: twin::Feed,
-    twin_table: Vec<u64>,
+    twin_tables: Tables,
     time: u64,
     history: History,
 }
 
-/// Runs of many events from a new feed and a zeroed table.
+/// Runs of many events from a new feed and zeroed tables.
 pub fn check(pair: &mut Pair, dice: &mut Dice, runs: u64, events: u64) {
     pair.tally.part("events of whole runs, library against twin");
     for number in 0..runs {
-        let words = dice.of(&[192, 320, 333, 640, 1_000]);
+        // now and then fewer strips than codes come
+        let tables = Tables::zeros(dice.of(&[192, 320, 333, 640, 1_000]), dice.of(&[60, 60, 60, 65, 47]));
         let mut run = Run {
             feed: raw::new(LIMIT).feed,
-            table: vec![0; words],
+            tables: tables.clone(),
             twin_feed: twin::new(LIMIT).feed,
-            twin_table: vec![0; words],
+            twin_tables: tables,
             time: if number % 8 == 0 { u64::MAX - 3_000 } else { 0 },
             history: History::default(),
         };
@@ -54,44 +57,67 @@ impl Run {
         let (seq, internal) = self.numbers(dice);
         let bytes = if dice.once_in(12) { [20, 0, 0, 0].repeat(5) } else { self.unit(dice, seq, internal, &message) };
         if dice.once_in(10) {
-            let met = meets(&self.table, &message);
-            let ours = raw::arrive_cut(self.feed, &mut self.table, seq, internal, &message, time);
-            let twins = twin::arrive_cut(self.twin_feed, &mut self.twin_table, seq, internal, &message, time);
-            pair.tally.emptying(self.feed.phase, met, &ours);
+            let met = self.met(&message);
+            let ours = raw::arrive_cut(self.feed, self.tables.lend(), seq, internal, &message, time);
+            let twins = twin::arrive_cut(self.twin_feed, self.twin_tables.lend_twin(), seq, internal, &message, time);
+            self.note(pair, met, &ours);
             return self.arrived(pair, Call::ArriveCut, ours, twins, &message, time);
         }
         let message = bytes.get(20..).unwrap_or(&[]);
-        let met = meets(&self.table, message);
-        let ours = raw::arrive(self.feed, &mut self.table, &bytes, time);
-        let twins = twin::arrive(self.twin_feed, &mut self.twin_table, &bytes, time);
-        pair.tally.emptying(self.feed.phase, met, &ours);
+        let met = self.met(message);
+        let ours = raw::arrive(self.feed, self.tables.lend(), &bytes, time);
+        let twins = twin::arrive(self.twin_feed, self.twin_tables.lend_twin(), &bytes, time);
+        self.note(pair, met, &ours);
         self.arrived(pair, Call::Arrive, ours, twins, message, time);
+    }
+
+    /// What a message without entries meets in the books, and one for a strip in the strips.
+    fn met(&self, message: &[u8]) -> (Option<Meets>, Option<StripMeets>) {
+        (meets(&self.tables.books, message), strips::meets(&self.tables.strips, message))
+    }
+
+    fn note(&self, pair: &mut Pair, met: (Option<Meets>, Option<StripMeets>), given: &MmdhGiven) {
+        pair.tally.emptying(self.feed.phase, met.0, given);
+        pair.tally.strip(self.feed.phase, met.1, given);
     }
 
     /// Mostly what the phase wants.
     fn message(&self, dice: &mut Dice) -> Vec<u8> {
         match (self.feed.phase, dice.below(30)) {
-            (_, 0) if dice.once_in(6) => scene::message(dice, self.feed.phase, &self.table),
+            (_, 0) if dice.once_in(6) => scene::message(dice, self.feed.phase, &self.tables.books),
             (1, _) => message(1105, 532),
             (2, _) => session(1102, dice.of(&[0, 0, 2, 101, 101, 1, 3, 8])),
             (3, 1) => refresh_complete(dice.of(&[1, 30, 500])),
             (3, 2) => session(1202, 0),
-            (_, 3) => message(dice.of(&[10, 11, 20, 40, 52, 60]), 12),
+            (_, 3) => message(dice.of(&[10, 11, 20, 52, 60]), 12),
+            (_, 4..=12) => self.strip_message(dice),
             _ => self.book_message(dice),
         }
     }
 
+    /// Of a code that has room, and of the right size, mostly.
+    fn strip_message(&self, dice: &mut Dice) -> Vec<u8> {
+        let (kind, size) = dice.of(&STRIPS);
+        loop {
+            let message = scene::strip_message(dice, kind);
+            let taken = || twin::strip::take(&mut self.twin_tables.strips.clone(), &message).is_ok();
+            if dice.once_in(12) || (message.len() == size && taken()) {
+                return message;
+            }
+        }
+    }
+
     fn book_message(&self, dice: &mut Dice) -> Vec<u8> {
-        let code = dice.of(&scene::CODES[..(self.table.len() / 64).min(5)]);
-        let mut entries = scene::entries(dice, &self.table, code);
+        let code = dice.of(&scene::CODES[..(self.tables.books.len() / 64).min(5)]);
+        let mut entries = scene::entries(dice, &self.tables.books, code);
         if !dice.once_in(12) {
             // judged on the twin first, so that most messages of a run fit
             for _ in 0..20 {
                 let message = exchange::book_message(code as u32, &entries);
-                if twin::book::take(&mut self.twin_table.clone(), &message).is_ok() {
+                if twin::book::take(&mut self.twin_tables.books.clone(), &message).is_ok() {
                     return message;
                 }
-                entries = scene::entries(dice, &self.table, code);
+                entries = scene::entries(dice, &self.tables.books, code);
             }
         }
         exchange::book_message(code as u32, &entries)
@@ -130,7 +156,7 @@ impl Run {
         self.feed = ours.feed;
         self.twin_feed = twins.feed;
         let wanted = MmdhGiven { answer: twins.answer as u64, used: twins.used, feed: plain_feed(twins.feed) };
-        let good = ours == wanted && self.table == self.twin_table;
+        let good = ours == wanted && self.tables == self.twin_tables;
         pair.tally.met(call, ours.answer);
         pair.tally.holds(good, || {
             format!("run: {:?} time {}\n  {:02x?}\n  {:?}\n  {:?}", before, time, message, ours, wanted)
@@ -147,42 +173,59 @@ impl Run {
         }
     }
 
-    /// The table is what the messages taken since the last clearing make of an empty one.
+    /// The tables are what the messages taken since the last clearing make of empty ones.
     fn replay(&self, pair: &mut Pair) {
-        let mut replayed = vec![0; self.table.len()];
+        let mut replayed = Tables::zeros(self.tables.books.len(), self.tables.strips.len());
         for message in &self.history.taken {
             let size = usize::from(u16::from_le_bytes([message[0], message[1]]));
-            let fitted = twin::book::take(&mut replayed, &message[..size]).is_ok();
-            pair.tally.holds(fitted, || format!("a replayed message does not fit: {:02x?}", message));
+            let fitted = match message[2] {
+                53 => twin::book::take(&mut replayed.books, &message[..size]),
+                _ => twin::strip::take(&mut replayed.strips, &message[..size]),
+            };
+            pair.tally.holds(fitted.is_ok(), || format!("a replayed message does not fit: {:02x?}", message));
         }
-        pair.tally.holds(replayed == self.table, || "the table is not what replay gives".to_string());
+        pair.tally.holds(replayed == self.tables, || "the tables are not what replay gives".to_string());
     }
 }
 
 /// A long valid run: every unit taken, passed or a heartbeat, and no difference at the end.
 pub fn check_market(pair: &mut Pair, units: u32) {
-    pair.tally.part("units of one long valid run over 128 books");
+    pair.tally.part("units of one long valid run over 128 books and strips");
     let listed: Vec<(u32, i32)> = (0..128).map(|k| (1 + 700 * k, 200 + 1_111 * k as i32)).collect();
     let mut market = Market::new(99, &listed);
     let mut feed = MmdhFeed { phase: 4, next: 1, internal: 0, heard: 0, limit: 1_000, whole: 1, fresh: 1 };
-    let mut table = vec![0; 64 * 128];
-    let (mut twins, mut twin_table) = (crate::pair::twin_feed(feed), table.clone());
+    let mut tables = Tables::zeros(64 * 128, STRIP * 128);
+    let (mut twins, mut twin_tables) = (crate::pair::twin_feed(feed), tables.clone());
     for number in 1..=units {
         let book = market.dice().place(128);
         let entries = 2 + market.dice().place(3);
         let message = match market.dice().below(500) {
             0 => market.clear(book),
             1..=4 => market.emptied(book),
+            5..=104 => strip(&mut market, book),
             _ => market.update(book, entries),
         };
         let bytes = exchange::unit(number, number, &message);
-        let given = raw::arrive(feed, &mut table, &bytes, u64::from(number));
-        let twin_given = twin::arrive(twins, &mut twin_table, &bytes, u64::from(number));
+        let given = raw::arrive(feed, tables.lend(), &bytes, u64::from(number));
+        let twin_given = twin::arrive(twins, twin_tables.lend_twin(), &bytes, u64::from(number));
         pair.tally.met(Call::Arrive, given.answer);
         let good = given.answer == 0 && plain_feed(twin_given.feed) == given.feed && given.used == bytes.len() as u64;
         pair.tally.holds(good, || format!("unit {}: {:?}", number, given));
         feed = given.feed;
         twins = twin_given.feed;
     }
-    pair.tally.same(&table, &twin_table, || "the tables after the long run".to_string());
+    pair.tally.same(&tables, &twin_tables, || "the tables after the long run".to_string());
+}
+
+/// A message that brings values to a strip, of any type.
+fn strip(market: &mut Market, k: usize) -> Vec<u8> {
+    match market.dice().below(7) {
+        0 => market.closing(k),
+        1 => market.no_equilibrium(k),
+        2 => market.no_imbalance(k),
+        3 => market.reference(k),
+        4 => market.equilibrium(k),
+        5 => market.imbalance(k),
+        _ => market.nominal(k),
+    }
 }

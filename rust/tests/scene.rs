@@ -1,10 +1,13 @@
 //! Random feeds, tables, messages and times, with their edges often.
 
+use crate::tables::Tables;
 use exchange::dice::Dice;
 use exchange::{Entry, CHANGE, CLEAR, DELETE, NEW};
 use mmdh::raw::MmdhFeed;
 
 pub const SLOT: usize = 64;
+/// Words of a strip.
+pub const STRIP: usize = 12;
 const TOP32: u64 = u32::MAX as u64;
 
 /// Codes that messages and tables share.
@@ -12,7 +15,16 @@ pub const CODES: [u64; 5] = [1, 5, 700, 2_800, 99_999];
 const CODES_OUT: [u64; 6] = [0, 100_000, 100_001, 65_536 + 100_000, TOP32, (1 << 24) + 700];
 /// Types with a meaning to the feed.
 pub const SESSION: [u16; 7] = [203, 1101, 1102, 1103, 1105, 1201, 1202];
-const MARKET: [u16; 18] = [0, 10, 11, 20, 40, 41, 43, 52, 54, 56, 60, 62, 309, 1100, 1104, 1203, 13_568, 65_535];
+/// Types that bring values to a strip, and their sizes.
+pub const STRIPS: [(u16, usize); 5] = [(40, 12), (41, 20), (43, 20), (56, 20), (62, 16)];
+/// Types that are passed over, those beside the types of strips among them.
+pub const MARKET: [u16; 20] =
+    [0, 10, 11, 20, 39, 42, 44, 52, 54, 55, 57, 60, 61, 63, 296, 309, 1100, 1203, 13_568, 65_535];
+
+/// The characters of an imbalance's direction.
+const DIRECTIONS: [u8; 4] = [b'N', b'B', b'S', b' '];
+/// Others, which are not listed.
+const DIRECTIONS_OUT: [u8; 12] = [0, 31, 33, b'A', b'C', b'M', b'O', b'R', b'T', b'n', b'b', 255];
 
 /// A code for a book message, mostly a listed one.
 pub fn code(dice: &mut Dice) -> u64 {
@@ -66,6 +78,141 @@ pub fn time(dice: &mut Dice, heard: u64) -> u64 {
         2 => u64::MAX,
         _ => heard.saturating_add(dice.below(3)),
     }
+}
+
+/// Lengths of strip tables in random calls.
+const STRIP_LENGTHS: [usize; 12] = [0, 11, 12, 12, 13, 23, 24, 24, 36, 37, 60, 71];
+
+/// Books in this many words, strips in some, with all kinds of slots.
+pub fn tables(dice: &mut Dice, words: usize) -> Tables {
+    let books = table(dice, words);
+    let words = dice.of(&STRIP_LENGTHS);
+    Tables { books, strips: strips(dice, words) }
+}
+
+/// A table of strips of this many words with all kinds of slots.
+pub fn strips(dice: &mut Dice, words: usize) -> Vec<u64> {
+    let mut table = Vec::with_capacity(words + STRIP);
+    while table.len() < words {
+        table.extend_from_slice(&strip_slot(dice));
+    }
+    table.truncate(words);
+    table
+}
+
+fn strip_slot(dice: &mut Dice) -> [u64; STRIP] {
+    let code = dice.of(&CODES);
+    match dice.below(24) {
+        0..=3 => [0; STRIP],
+        4 | 5 => {
+            let mut slot = strip(dice, 0);
+            spoil_strip(dice, &mut slot);
+            slot
+        }
+        6..=10 => {
+            let mut slot = strip(dice, code);
+            spoil_strip(dice, &mut slot);
+            slot
+        }
+        11 => {
+            let code = dice.of(&[100_000, 1 << 40, (1 << 32) + 700, u64::MAX]);
+            strip(dice, code)
+        }
+        12 => {
+            let mut slot = [0; STRIP];
+            slot.iter_mut().for_each(|word| *word = dice.any() >> dice.below(64));
+            slot[0] = dice.of(&[0, code]);
+            slot
+        }
+        _ => strip(dice, code),
+    }
+}
+
+/// A sound strip.
+pub fn strip(dice: &mut Dice, code: u64) -> [u64; STRIP] {
+    let flags = (dice.any() & dice.of(&[0, 511, 511, 511])) | dice.of(&[0, 0, 0, 511]);
+    let mut slot = [0; STRIP];
+    slot[..2].copy_from_slice(&[code, flags]);
+    for value in (0..9).filter(|value| (flags >> value) & 1 == 1) {
+        slot[2 + value] = match value {
+            6 => u64::from(dice.of(&DIRECTIONS)),
+            2 | 7 => quantity(dice),
+            _ => dice.of(&[0, 1, (1 << 31) - 1, 1 << 31, (1 << 31) + 9_730, TOP32]),
+        };
+    }
+    slot
+}
+
+/// Makes a strip unsound, in one of every way.
+pub fn spoil_strip(dice: &mut Dice, slot: &mut [u64; STRIP]) {
+    let value = dice.place(9);
+    match dice.below(6) {
+        0 => slot[1] |= dice.of(&[512, 1_024, 1 << 32, 1 << 63]),
+        1 => {
+            let value = dice.of(&[0, 1, 3, 4, 5, 8]);
+            slot[1] |= 1 << value;
+            slot[2 + value] = dice.of(&[1 << 32, (1 << 32) + 9_730, 1 << 63, u64::MAX]);
+        }
+        2 => {
+            slot[1] |= 1 << 6;
+            slot[8] = dice.of(&[0, 31, 65, 79, 115, 256 + 78, (1 << 32) + 66, u64::MAX]);
+        }
+        3 => {
+            slot[1] &= !(1 << value);
+            slot[2 + value] = dice.of(&[1, 32, 78, 1 << 31, u64::MAX]);
+        }
+        4 => slot[11] = dice.of(&[1, 1 << 63, u64::MAX]),
+        _ => {
+            slot[1] &= !(1 << 6);
+            slot[8] = u64::from(dice.of(&DIRECTIONS));
+        }
+    }
+}
+
+fn quantity(dice: &mut Dice) -> u64 {
+    match dice.below(6) {
+        0 => dice.any(),
+        _ => dice.of(&[0, 1, 4_000, TOP32, TOP32 + 1, u64::MAX]),
+    }
+}
+
+fn price(dice: &mut Dice) -> i32 {
+    match dice.below(6) {
+        0 => dice.any() as i32,
+        _ => dice.of(&[0, 1, -1, 9_730, i32::MIN, i32::MAX]),
+    }
+}
+
+fn direction(dice: &mut Dice) -> u8 {
+    match dice.below(16) {
+        0 => dice.any() as u8,
+        1 => dice.of(&DIRECTIONS_OUT),
+        _ => dice.of(&DIRECTIONS),
+    }
+}
+
+/// A message of one of the five types, with any filler; now and then it is a byte too short or too long.
+pub fn strip_message(dice: &mut Dice, kind: u16) -> Vec<u8> {
+    let code = code(dice) as u32;
+    let mut message = match kind {
+        40 => exchange::nominal(code, price(dice)),
+        41 => exchange::equilibrium(code, price(dice), quantity(dice)),
+        43 => exchange::reference(code, [price(dice), price(dice), price(dice)]),
+        56 => exchange::imbalance(code, direction(dice), quantity(dice)),
+        _ => exchange::closing(code, price(dice)),
+    };
+    let filler: &[usize] = match kind {
+        56 => &[9, 18, 19],
+        62 => &[12, 13, 14, 15],
+        _ => &[],
+    };
+    filler.iter().for_each(|&at| message[at] = dice.of(&[0, 32, 255]));
+    if dice.once_in(16) {
+        let size = message.len() - 1 + 2 * dice.place(2);
+        message.resize(size, 0);
+        message[0] = size as u8;
+    }
+    message
 }
 
 /// A table of this many words with all kinds of slots.
@@ -263,16 +410,18 @@ fn damage(dice: &mut Dice, entry: &mut Entry) {
     }
 }
 
-/// A message that the phase may well allow.
+/// A message that the phase may well allow, over these books.
 pub fn message(dice: &mut Dice, phase: u64, table: &[u64]) -> Vec<u8> {
-    let kind = match (phase, dice.below(10)) {
+    let kind = match (phase, dice.below(12)) {
         (_, 0) => dice.of(&SESSION),
         (_, 1) => dice.of(&MARKET),
+        (_, 2) => dice.of(&STRIPS).0,
         (1, _) => 1105,
         (2, _) => 1102,
-        (3, 2) => 203,
-        (3, 3) => 1202,
-        (_, 4) => 1103,
+        (3, 3) => 203,
+        (3, 4) => 1202,
+        (_, 5) => 1103,
+        (_, 6 | 7) => dice.of(&STRIPS).0,
         _ => 53,
     };
     match kind {
@@ -283,6 +432,7 @@ pub fn message(dice: &mut Dice, phase: u64, table: &[u64]) -> Vec<u8> {
         }
         203 => exchange::refresh_complete(dice.of(&[0, 1, 7, u32::MAX])),
         1102 | 1103 | 1202 => exchange::session(kind, status(dice, kind)),
+        40 | 41 | 43 | 56 | 62 => strip_message(dice, kind),
         _ => exchange::message(kind, dice.of(&[4, 5, 8, 12, 30])),
     }
 }

@@ -1,5 +1,7 @@
-//! Counts what was compared, by part, every answer that the library gave, and what was met by messages that empty a book.
+//! Counts what was compared, by part, every answer that the library gave, and what was met by messages that empty a book
+//! and by those for a strip.
 
+use crate::scene::STRIPS;
 use mmdh::raw::MmdhGiven;
 use std::collections::BTreeMap;
 use std::fmt::Debug;
@@ -13,16 +15,18 @@ pub enum Call {
     ArriveCut,
     ReadRow,
     ReadSide,
+    ReadStrip,
     Why,
 }
 
-const WANTED: [(Call, &[u64]); 7] = [
+const WANTED: [(Call, &[u64]); 8] = [
     (Call::New, &[0, 19]),
     (Call::Connect, &[0, 10, 20]),
     (Call::Arrive, &[0, 1, 2, 3, 10, 11, 12, 13, 14, 15, 16, 17, 18]),
     (Call::ArriveCut, &[0, 1, 2, 10, 11, 12, 13, 14, 15, 16, 17, 18]),
     (Call::ReadRow, &[0, 4, 15, 18]),
     (Call::ReadSide, &[0, 4, 15, 18]),
+    (Call::ReadStrip, &[0, 4, 15, 18]),
     (Call::Why, &[0, 1, 2, 3, 4, 5, 6, 7, 8, 9]),
 ];
 
@@ -54,6 +58,94 @@ impl Meets {
 /// The phases that take such a message, and what it must have met there by the end besides.
 const EMPTYING: [(u64, &str, Option<Meets>); 2] = [(3, "Refreshing", None), (4, "Live", Some(Meets::Seen))];
 
+/// What a message of a strip's type may find, in itself or in the table of strips.
+#[derive(Clone, Copy, PartialEq, Eq, PartialOrd, Ord, Debug)]
+pub enum Finds {
+    WrongSize,
+    BadCode,
+    BadDirection,
+    /// The code's strip is not sound: its flags, its spare word, a value that has not come, a price, the direction.
+    Flags,
+    Spare,
+    NotCome,
+    LargePrice,
+    BadLetter,
+    /// No strip, and no slot is free.
+    FullTable,
+    /// No strip, and the lowest free slot is zero.
+    NoStrip,
+    /// No strip, and the lowest free slot has words in it.
+    Litter,
+    /// A sound strip, and its code in a later slot too.
+    TwoSlots,
+    /// A space, where the quantity that had come is not 0.
+    Space,
+    /// A sound strip in which a value that it brings had come.
+    OldValue,
+    /// A sound strip in which none had.
+    NewValue,
+    /// Any of these but a wrong size, by a message that was there already.
+    Seen,
+}
+
+impl Finds {
+    /// All but Seen, which is in Live alone, and a wrong size, which is in every open phase.
+    const IN_EITHER: [Finds; 14] = [
+        Finds::BadCode,
+        Finds::BadDirection,
+        Finds::Flags,
+        Finds::Spare,
+        Finds::NotCome,
+        Finds::LargePrice,
+        Finds::BadLetter,
+        Finds::FullTable,
+        Finds::NoStrip,
+        Finds::Litter,
+        Finds::TwoSlots,
+        Finds::Space,
+        Finds::OldValue,
+        Finds::NewValue,
+    ];
+
+    /// The answer that it must get.
+    pub fn answer(self) -> u64 {
+        match self {
+            Finds::WrongSize => 12,
+            Finds::BadCode | Finds::BadDirection => 15,
+            Finds::Flags | Finds::Spare | Finds::NotCome | Finds::LargePrice | Finds::BadLetter => 18,
+            Finds::FullTable => 17,
+            Finds::NoStrip | Finds::Litter | Finds::TwoSlots | Finds::Space | Finds::OldValue | Finds::NewValue => 0,
+            Finds::Seen => 1,
+        }
+    }
+
+    /// Whether only a type with a direction finds it.
+    fn of_directions(self) -> bool {
+        matches!(self, Finds::BadDirection | Finds::Space)
+    }
+}
+
+/// A message of a strip's type, and what it finds.
+#[derive(Clone, Copy, PartialEq, Eq, PartialOrd, Ord, Debug)]
+pub struct StripMeets {
+    pub kind: u16,
+    pub finds: Finds,
+}
+
+/// All that messages of strips' types must have met at random in a phase by the end.
+fn to_be_met(phase: u64) -> impl Iterator<Item = StripMeets> {
+    let either = if phase >= 3 { &Finds::IN_EITHER[..] } else { &[] };
+    let besides = if phase == 4 { &[Finds::WrongSize, Finds::Seen][..] } else { &[Finds::WrongSize] };
+    let finds = either.iter().chain(besides);
+    finds.flat_map(|&finds| {
+        let kinds = STRIPS.into_iter().filter(move |(kind, _)| *kind == 56 || !finds.of_directions());
+        kinds.map(move |(kind, _)| StripMeets { kind, finds })
+    })
+}
+
+/// The phases that are open, and their names.
+const OPEN: [(u64, &str); 4] = [(1, "WaitKey"), (2, "WaitLogon"), (3, "Refreshing"), (4, "Live")];
+
 /// Differences printed in full before the rest are only counted.
 const SHOWN: u64 = 10;
 
@@ -64,6 +156,7 @@ pub struct Tally {
     parts: Vec<(&'static str, u64)>,
     answers: BTreeMap<(Call, u64), u64>,
     emptying: BTreeMap<(u64, Meets), u64>,
+    strips: BTreeMap<(u64, StripMeets), u64>,
 }
 
 impl Tally {
@@ -88,6 +181,24 @@ impl Tally {
         if given.used != 20 {
             *self.emptying.entry((phase, meets)).or_insert(0) += 1;
         }
+    }
+
+    /// Notes what a random message of a strip's type met in a phase, if it was judged as far as that; its answer must be
+    /// the one that goes with it.
+    pub fn strip(&mut self, phase: u64, meets: Option<StripMeets>, given: &MmdhGiven) {
+        // 20 bytes are a heartbeat's, whatever stands behind it
+        let met = match (given.answer, meets) {
+            (0 | 1 | 2 | 12 | 15..=18, Some(meets)) if given.used != 20 => meets,
+            _ => return,
+        };
+        // a part that is cut may have another length than its MsgSize says
+        if given.answer == 12 && met.finds != Finds::WrongSize {
+            return;
+        }
+        let seen = given.answer == 1 && met.finds != Finds::WrongSize;
+        let met = if seen { StripMeets { finds: Finds::Seen, ..met } } else { met };
+        self.same(&given.answer, &met.finds.answer(), || format!("{:?} in phase {}", met, phase));
+        *self.strips.entry((phase, met)).or_insert(0) += 1;
     }
 
     /// One comparison; the input is described only where the two differ.
@@ -122,6 +233,9 @@ impl Tally {
         for (met, times) in other.emptying {
             *self.emptying.entry(met).or_insert(0) += times;
         }
+        for (met, times) in other.strips {
+            *self.strips.entry(met).or_insert(0) += times;
+        }
     }
 
     /// Prints the counts; true where all passed.
@@ -140,6 +254,13 @@ impl Tally {
                 self.holds(met, || format!("NoEntries 0 in {} never met {:?}", name, meets));
             }
         }
+        self.part("all that messages of strips' types may meet, met at random in every phase that is open");
+        for (phase, name) in OPEN {
+            for meets in to_be_met(phase) {
+                let met = self.strips.contains_key(&(phase, meets));
+                self.holds(met, || format!("type {} in {} never met {:?}", meets.kind, name, meets.finds));
+            }
+        }
         for (name, count) in &self.parts {
             println!("{:>9}  {}", count, name);
         }
@@ -149,8 +270,20 @@ impl Tally {
         for (phase, name, _) in EMPTYING {
             println!("NoEntries 0 in {} (what it met: times)  {}", name, times(&self.emptying, phase));
         }
+        for (phase, name) in OPEN {
+            println!("strip messages in {} (what they met: times)  {}", name, self.strips_in(phase));
+        }
         println!("{} passed, {} failed", self.passed, self.failed);
         self.failed == 0
+    }
+
+    /// What strip messages met in a phase, over all five types.
+    fn strips_in(&self, phase: u64) -> String {
+        let mut counts = BTreeMap::new();
+        for ((_, met), times) in self.strips.iter().filter(|((of, _), _)| *of == phase) {
+            *counts.entry((phase, met.finds)).or_insert(0) += times;
+        }
+        times(&counts, phase)
     }
 }
 
