@@ -20,11 +20,13 @@ usage: bash rust/build.sh PART
   timeline [..]     every change of the badge in a capture with times (--help)
   script FILE       runs a script of calls (docs/SCRIPTS.md)
   capture [FILE]    writes captures/morning.bin and its times anew
-  bench [--short]   nanoseconds a message of the library, the plain twin and the tuned one, taking turns, at 128, 512 and
-                    4,096 slots, and a repaint by sides against single reads; --short only looks whether all three end with
-                    the same table and both repaints show the same. On Arm the library's own code is compiled for Arm,
-                    and no emulator runs; the library is proved first where it is not yet
-  count [SLOTS..]   x86-64 instructions a message of the same three, under an emulator; about ten minutes
+  bench [--short]   nanoseconds a message of the library, the plain twin and the tuned one, taking turns: book messages at
+                    128, 512 and 4,096 slots, strip messages at 128; and a repaint by sides against single reads. --short
+                    only looks whether all three end with the same tables and both repaints show the same. On Arm the
+                    library's own code is compiled for Arm, and no emulator runs; the library is proved first where it is
+                    not yet
+  count [SLOTS..]   x86-64 instructions a message of the same three, under an emulator; about ten minutes. 'strips' for
+                    strip messages alone
   env               the settings with which cargo builds for the archive, as lines for a shell
 
 What the gate runs, each with 'N passed, M failed' as its last line:

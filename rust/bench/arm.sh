@@ -3,9 +3,9 @@
 #   bash rust/bench/arm.sh      proves it where the sources have changed, and writes target/rust/arm/libscreen.a
 # 'bash rust/build.sh bench' runs it on Arm. The kit compiles for x86-64 alone, but its clang knows Arm too. So
 # 'rt staticlib screen' is run with a stand-in for that clang, which keeps the LLVM module it is handed and calls the
-# real one. The module is then compiled once more, for Arm. Only the six C calls change: on x86-64 the caller hands over
-# the place of the result as the first argument and the feed on the stack, on Arm the place in a register of its own and
-# the feed by its address. The archive is not the one that rt writes; it is another object file of the same code.
+# real one. The module is then compiled once more, for Arm. Only the C calls with a struct change: on x86-64 the caller hands
+# over the place of the result as the first argument and the feed on the stack, on Arm the place in a register of its own
+# and the feed by its address. The archive is not the one that rt writes; it is another object file of the same code.
 set -u
 cd "$(dirname "$0")/../.." || exit 1
 out=$PWD/target/rust/arm

@@ -1,6 +1,6 @@
 #!/usr/bin/env bash
 # Counts x86-64 instructions a message of the library, the plain twin and the tuned one, under qemu-x86_64:
-#   bash rust/bench/count.sh [SLOTS..]     128, 512 and 4096 where none is named; about ten minutes
+#   bash rust/bench/count.sh [SLOTS..]     128, 512 and 4096 slots, and strip messages ('strips') where none is named; about ten minutes
 # The difference of a run of 1,500 messages and one of 300 leaves out all that is no arrival; it repeats to the digit.
 # 'bash rust/build.sh count [SLOTS..]' builds the benchmark for x86-64 and runs this.
 set -u
@@ -32,17 +32,17 @@ a_message() {
     rm -f "$short_file"
 }
 
-[ $# -gt 0 ] || set -- 128 512 4096
+[ $# -gt 0 ] || set -- 128 512 4096 strips
 echo "x86-64 instructions a message"
-echo "slots  library    plain    tuned  library/plain  library/tuned"
+echo " slots  library    plain    tuned  library/plain  library/tuned"
 for slots in "$@"; do
     library=$(a_message library "$slots")
     plain=$(a_message plain "$slots")
     tuned=$(a_message tuned "$slots")
     if [ "$library" -le 0 ] || [ "$plain" -le 0 ] || [ "$tuned" -le 0 ]; then
-        echo "count: nothing was counted at $slots slots" >&2
+        echo "count: nothing was counted of $slots" >&2
         exit 1
     fi
     awk -v s="$slots" -v l="$library" -v p="$plain" -v t="$tuned" \
-        'BEGIN { printf "%5d %8d %8d %8d %14.2f %14.2f\n", s, l, p, t, l / p, l / t }'
+        'BEGIN { printf "%6s %8d %8d %8d %14.2f %14.2f\n", s, l, p, t, l / p, l / t }'
 done

@@ -1,10 +1,9 @@
-//! A course: a table with 128 books spread over all its slots, and a stream of messages that all fit.
+//! A course: a table with 128 books or strips spread over all its slots, and a stream of messages that all fit.
 
 use exchange::market::Market;
-use mmdh::raw::{self, MmdhFeed};
+use mmdh::raw::{self, Lent, MmdhFeed, BOOK_WORDS, STRIP_WORDS};
 use twin::{Answer, Feed, Phase};
 
-const SLOT: usize = 64;
 pub const BOOKS: usize = 128;
 const SEED: u64 = 0x9E37_79B9_7F4A_7C15;
 /// Messages to each book before the course begins.
@@ -21,10 +20,33 @@ pub enum Walker {
 
 pub const WALKERS: [Walker; 3] = [Walker::Library, Walker::Plain, Walker::Tuned];
 
+/// The words of both tables.
+#[derive(Clone, PartialEq, Eq)]
+pub struct Tables {
+    pub books: Vec<u64>,
+    strips: Vec<u64>,
+}
+
+impl Tables {
+    /// The same words as another's of the same lengths.
+    pub fn copy(&mut self, other: &Tables) {
+        self.books.copy_from_slice(&other.books);
+        self.strips.copy_from_slice(&other.strips);
+    }
+
+    fn lend(&mut self) -> Lent<'_> {
+        Lent { books: &mut self.books, strips: &mut self.strips }
+    }
+
+    fn lend_twin(&mut self) -> twin::Tables<'_> {
+        twin::Tables { books: &mut self.books, strips: &mut self.strips }
+    }
+}
+
 pub struct Course {
     slots: usize,
     messages: usize,
-    table: Vec<u64>,
+    tables: Tables,
     stream: Vec<u8>,
 }
 
@@ -32,25 +54,48 @@ pub struct Course {
 #[derive(PartialEq, Eq)]
 pub struct End {
     pub taken: usize,
-    table: Vec<u64>,
+    tables: Tables,
+}
+
+fn market() -> Market {
+    let listed: Vec<(u32, i32)> = (0..BOOKS as u32).map(|k| (FIRST_CODE + k, 300 + 777 * k as i32)).collect();
+    Market::new(SEED, &listed)
 }
 
 impl Course {
+    /// Book messages of 2 to 4 entries.
     pub fn new(slots: usize, messages: usize) -> Course {
-        let listed: Vec<(u32, i32)> = (0..BOOKS as u32).map(|k| (FIRST_CODE + k, 300 + 777 * k as i32)).collect();
-        let mut market = Market::new(SEED, &listed);
-        let mut table = spread(slots);
+        let mut market = market();
+        let mut books = spread::<BOOK_WORDS>(slots);
         for k in (0..BOOKS).cycle().take(BOOKS * WARM) {
             let message = market.update(k, 3);
-            twin::book::take(&mut table, &message).expect("a message of the market fits");
+            twin::book::take(&mut books, &message).expect("a message of the market fits");
         }
-        let mut stream = Vec::new();
-        for number in 1..=messages as u32 {
+        let tables = Tables { books, strips: vec![0; STRIP_WORDS * BOOKS] };
+        Course::of(slots, messages, tables, || {
             let (book, entries) = (market.dice().place(BOOKS), 2 + market.dice().place(3));
-            let message = market.update(book, entries);
-            stream.extend_from_slice(&exchange::unit(number, number, &message));
+            market.update(book, entries)
+        })
+    }
+
+    /// Strip messages of all five types.
+    pub fn strips(slots: usize, messages: usize) -> Course {
+        let mut market = market();
+        let mut strips = spread::<STRIP_WORDS>(slots);
+        for (k, which) in (0..BOOKS).flat_map(|k| (0..STRIP_TYPES).map(move |which| (k, which))) {
+            let message = strip_message(&mut market, k, which);
+            twin::strip::take(&mut strips, &message).expect("a code that has its slot");
         }
-        Course { slots, messages, table, stream }
+        let tables = Tables { books: vec![0; BOOK_WORDS * BOOKS], strips };
+        Course::of(slots, messages, tables, || {
+            let (k, which) = (market.dice().place(BOOKS), market.dice().below(STRIP_TYPES));
+            strip_message(&mut market, k, which)
+        })
+    }
+
+    fn of(slots: usize, messages: usize, tables: Tables, mut next: impl FnMut() -> Vec<u8>) -> Course {
+        let units = (1..=messages as u32).map(|number| exchange::unit(number, number, &next()));
+        Course { slots, messages, tables, stream: units.collect::<Vec<_>>().concat() }
     }
 
     pub fn slots(&self) -> usize {
@@ -61,32 +106,32 @@ impl Course {
         self.messages
     }
 
-    /// The table at the start.
-    pub fn table(&self) -> Vec<u64> {
-        self.table.clone()
+    /// The tables at the start.
+    pub fn tables(&self) -> Tables {
+        self.tables.clone()
     }
 
     pub fn end(&self, walker: Walker) -> End {
-        let mut table = self.table();
-        let taken = self.walk(walker, &mut table, self.messages);
-        End { taken, table }
+        let mut tables = self.tables();
+        let taken = self.walk(walker, &mut tables, self.messages);
+        End { taken, tables }
     }
 
     /// The first messages, one arrival each; how many were taken.
-    pub fn walk(&self, walker: Walker, table: &mut [u64], messages: usize) -> usize {
+    pub fn walk(&self, walker: Walker, tables: &mut Tables, messages: usize) -> usize {
         match walker {
-            Walker::Library => self.walk_library(table, messages),
-            Walker::Plain => self.walk_plain(table, messages),
-            Walker::Tuned => self.walk_tuned(table, messages),
+            Walker::Library => self.walk_library(tables, messages),
+            Walker::Plain => self.walk_plain(tables, messages),
+            Walker::Tuned => self.walk_tuned(tables, messages),
         }
     }
 
     #[inline(never)]
-    fn walk_library(&self, table: &mut [u64], messages: usize) -> usize {
+    fn walk_library(&self, tables: &mut Tables, messages: usize) -> usize {
         let mut feed = MmdhFeed { phase: 4, next: 1, internal: 0, heard: 0, limit: 1_000, whole: 1, fresh: 1 };
         let mut at = 0;
         for taken in 0..messages {
-            let given = raw::arrive(feed, table, &self.stream[at..], 1);
+            let given = raw::arrive(feed, tables.lend(), &self.stream[at..], 1);
             if given.answer != 0 {
                 return taken;
             }
@@ -97,11 +142,11 @@ impl Course {
     }
 
     #[inline(never)]
-    fn walk_plain(&self, table: &mut [u64], messages: usize) -> usize {
+    fn walk_plain(&self, tables: &mut Tables, messages: usize) -> usize {
         let mut feed = live();
         let mut at = 0;
         for taken in 0..messages {
-            let given = twin::arrive(feed, table, &self.stream[at..], 1);
+            let given = twin::arrive(feed, tables.lend_twin(), &self.stream[at..], 1);
             if given.answer != Answer::Taken {
                 return taken;
             }
@@ -112,11 +157,11 @@ impl Course {
     }
 
     #[inline(never)]
-    fn walk_tuned(&self, table: &mut [u64], messages: usize) -> usize {
+    fn walk_tuned(&self, tables: &mut Tables, messages: usize) -> usize {
         let mut feed = live();
         let mut at = 0;
         for taken in 0..messages {
-            let (answer, used) = twin::tuned::arrive(&mut feed, table, &self.stream[at..], 1);
+            let (answer, used) = twin::tuned::arrive(&mut feed, tables.lend_twin(), &self.stream[at..], 1);
             if answer != Answer::Taken {
                 return taken;
             }
@@ -130,11 +175,24 @@ fn live() -> Feed {
     Feed { phase: Phase::Live, next: 1, internal: 0, heard: 0, limit: 1_000, whole: true, fresh: true }
 }
 
-/// The books' codes at even distances; every slot between has a code of its own.
-fn spread(slots: usize) -> Vec<u64> {
-    let mut table = vec![0; SLOT * slots];
+/// Types that bring values to strips.
+const STRIP_TYPES: u64 = 5;
+
+fn strip_message(market: &mut Market, k: usize, which: u64) -> Vec<u8> {
+    match which {
+        0 => market.nominal(k),
+        1 => market.equilibrium(k),
+        2 => market.reference(k),
+        3 => market.imbalance(k),
+        _ => market.closing(k),
+    }
+}
+
+/// The codes at even distances; every slot between has a code of its own.
+fn spread<const WIDTH: usize>(slots: usize) -> Vec<u64> {
+    let mut table = vec![0; WIDTH * slots];
     let apart = (slots / BOOKS).max(1);
-    for (k, slot) in table.chunks_exact_mut(SLOT).enumerate() {
+    for (k, slot) in table.chunks_exact_mut(WIDTH).enumerate() {
         let is_book = k % apart == apart - 1 && k / apart < BOOKS;
         slot[0] = if is_book { u64::from(FIRST_CODE) + (k / apart) as u64 } else { 50_000 + k as u64 };
     }

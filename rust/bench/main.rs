@@ -1,6 +1,6 @@
 //! Nanoseconds a message: single arrivals through the C calls, against the plain twin and the tuned one.
-//! 128 books, 2 to 4 entries a message, every message fits; all three must end with the same table.
-//! And microseconds a repaint of all their sides, by sides at once against single reads.
+//! 128 books, 2 to 4 entries a message, every message fits; all three must end with the same tables.
+//! The same for strip messages of all five types, over 128 strips. And microseconds a repaint of all their sides, by sides at once against single reads.
 
 #![forbid(unsafe_code)]
 
@@ -11,10 +11,13 @@ use course::{Course, Walker, WALKERS};
 use std::process::exit;
 use std::time::Instant;
 
-const USAGE: &str = "bench [--short | --count library|plain|tuned SLOTS MESSAGES]";
+const USAGE: &str = "bench [--short | --count library|plain|tuned SLOTS|strips MESSAGES]";
 
 /// Slots of the table, messages of a pass, passes.
 const COURSES: [(usize, usize, usize); 3] = [(128, 10_000, 60), (512, 5_000, 60), (4_096, 1_500, 60)];
+
+/// The same of strip messages.
+const STRIPS: (usize, usize, usize) = (128, 10_000, 60);
 
 /// Messages of a course whose instructions are counted; only some of them are walked.
 const COUNTED: usize = 1_500;
@@ -22,20 +25,20 @@ const COUNTED: usize = 1_500;
 /// The best pass of each, in nanoseconds a message, the three taking turns.
 fn measure(course: &Course, passes: usize) -> [f64; 3] {
     let mut best = [f64::INFINITY; 3];
-    let start = course.table();
-    let mut table = course.table();
+    let start = course.tables();
+    let mut tables = course.tables();
     for _ in 0..passes {
         for (walker, best) in WALKERS.iter().zip(&mut best) {
-            table.copy_from_slice(&start);
+            tables.copy(&start);
             let began = Instant::now();
-            course.walk(*walker, &mut table, course.messages());
+            course.walk(*walker, &mut tables, course.messages());
             *best = best.min(began.elapsed().as_nanos() as f64 / course.messages() as f64);
         }
     }
     best
 }
 
-/// All three end with the same table, every message taken.
+/// All three end with the same tables, every message taken.
 fn check(course: &Course) -> Result<(), String> {
     let ends: Vec<_> = WALKERS.iter().map(|&walker| course.end(walker)).collect();
     if ends.iter().any(|end| end.taken != course.messages()) {
@@ -51,23 +54,34 @@ fn short() -> Result<(), String> {
     for (slots, _, _) in COURSES {
         let course = Course::new(slots, 300);
         check(&course)?;
-        println!("{:>5} slots: {} messages, the same table three times", slots, course.messages());
+        println!("{:>5} slots: {} messages, the same tables three times", slots, course.messages());
         println!("{:>5} slots: {} rows, the same by sides and by single reads", slots, repaint::check(&course)?);
     }
+    let course = Course::strips(STRIPS.0, 300);
+    check(&course)?;
+    println!("{:>5} slots: {} strip messages, the same tables three times", STRIPS.0, course.messages());
     Ok(())
 }
 
 fn full() -> Result<(), String> {
-    println!("nanoseconds a message, best of alternating passes");
+    println!("nanoseconds a book message, best of alternating passes");
     println!("slots  library    plain    tuned  library/plain  library/tuned");
     for (slots, messages, passes) in COURSES {
-        let course = Course::new(slots, messages);
-        check(&course)?;
-        let [library, plain, tuned] = measure(&course, passes);
-        let ratios = (library / plain, library / tuned);
-        println!("{:>5} {:>8.1} {:>8.1} {:>8.1} {:>14.2} {:>14.2}", slots, library, plain, tuned, ratios.0, ratios.1);
+        timed(&Course::new(slots, messages), passes)?;
     }
+    println!("\nnanoseconds a strip message, best of alternating passes");
+    println!("slots  library    plain    tuned  library/plain  library/tuned");
+    timed(&Course::strips(STRIPS.0, STRIPS.1), STRIPS.2)?;
     repaints()
+}
+
+/// One course, its times and their ratios.
+fn timed(course: &Course, passes: usize) -> Result<(), String> {
+    check(course)?;
+    let [library, plain, tuned] = measure(course, passes);
+    let (slots, ratios) = (course.slots(), (library / plain, library / tuned));
+    println!("{:>5} {:>8.1} {:>8.1} {:>8.1} {:>14.2} {:>14.2}", slots, library, plain, tuned, ratios.0, ratios.1);
+    Ok(())
 }
 
 /// A whole repaint, in a table of its own.
@@ -87,10 +101,13 @@ fn repaints() -> Result<(), String> {
 fn count(words: &[String]) -> Result<(), String> {
     let walker = WALKERS.iter().find(|walker| words.first() == Some(&walker.name().to_string()));
     let number = |at: usize| words.get(at).and_then(|word| word.parse().ok());
-    match (walker, number(1), number(2)) {
-        (Some(&walker), Some(slots), Some(messages)) => {
-            let course = Course::new(slots, COUNTED);
-            course.walk(walker, &mut course.table(), COUNTED.min(messages));
+    let course = match words.get(1).map(String::as_str) {
+        Some("strips") => Some(Course::strips(STRIPS.0, COUNTED)),
+        _ => number(1).map(|slots| Course::new(slots, COUNTED)),
+    };
+    match (walker, course, number(2)) {
+        (Some(&walker), Some(course), Some(messages)) => {
+            course.walk(walker, &mut course.tables(), COUNTED.min(messages));
             Ok(())
         }
         _ => Err(USAGE.to_string()),

@@ -59,7 +59,7 @@ pub fn by_rows(table: &[u64]) -> Shown {
 
 /// Both ways show the same; how many rows.
 pub fn check(course: &Course) -> Result<u64, String> {
-    let table = course.table();
+    let table = course.tables().books;
     let shown = by_sides(&table);
     if shown.rows == 0 || shown != by_rows(&table) {
         return Err(format!("{} slots: a repaint by sides shows other rows than one by single reads", course.slots()));
@@ -69,7 +69,7 @@ pub fn check(course: &Course) -> Result<u64, String> {
 
 /// The best pass of each way, in microseconds a repaint, the two taking turns.
 pub fn measure(course: &Course) -> [f64; 2] {
-    let table = course.table();
+    let table = course.tables().books;
     let mut best = [f64::INFINITY; 2];
     for _ in 0..PASSES {
         for (way, best) in [by_sides, by_rows].iter().zip(&mut best) {
