@@ -1,11 +1,11 @@
 //! Writes a capture: one connection's bytes of a believable morning, the same every time, and beside it their times.
-//! Hub up about six, books fill, badges go green; some books are emptied, once the line falls quiet, and in the end for
-//! good.
+//! Hub up about six, books and the price strips under them fill, badges go green; some books are emptied, once the line
+//! falls quiet, and in the end for good.
 
 #![forbid(unsafe_code)]
 
 use exchange::market::Market;
-use exchange::{header, message, refresh_complete, session};
+use exchange::{about, header, message, refresh_complete, session};
 use std::path::Path;
 use std::process::exit;
 
@@ -82,13 +82,6 @@ impl Line {
     }
 }
 
-/// A message about one code.
-fn about(kind: u16, len: usize, code: u32) -> Vec<u8> {
-    let mut message = message(kind, len);
-    message[4..8].copy_from_slice(&code.to_le_bytes());
-    message
-}
-
 /// SendKey, and a logon response that calls for a refresh.
 fn log_on(line: &mut Line) {
     line.wait(120);
@@ -101,7 +94,7 @@ fn log_on(line: &mut Line) {
     line.send(&session(1202, 0));
 }
 
-/// The snapshot: what is listed, then the books, then its end.
+/// The snapshot: what is listed, then the books and their prices, then its end.
 fn refresh(line: &mut Line, market: &mut Market) {
     for _ in 0..4 {
         line.send(&message(10, 40));
@@ -118,37 +111,80 @@ fn refresh(line: &mut Line, market: &mut Market) {
             let snapshot = market.snapshot(k, side, rows);
             line.send(&snapshot);
         }
-        line.send(&about(40, 12, market.code(k)));
+        prices(line, market, k);
     }
     line.wait(60);
     line.internal = REFRESHED;
     line.send(&refresh_complete(REFRESHED));
 }
 
-/// Updates as they come, busier at the front of the list, with messages between that no book takes.
+/// The latest prices of one code; one code in three takes no part in the auction.
+fn prices(line: &mut Line, market: &mut Market, k: usize) {
+    let (nominal, in_auction) = (market.nominal(k), k % 3 != 2);
+    if in_auction {
+        let latest = [market.imbalance(k), market.equilibrium(k)];
+        latest.iter().for_each(|message| line.send(message));
+    }
+    line.send(&nominal);
+    if in_auction {
+        let reference = market.reference(k);
+        line.send(&reference);
+    }
+}
+
+/// Updates as they come, busier at the front of the list, with prices between them, and messages of which nothing is kept.
 fn trade(line: &mut Line, market: &mut Market, updates: usize) {
     for _ in 0..updates {
         line.wait(market.dice().below(45));
         let books = market.len();
         let k = market.dice().place(books).min(market.dice().place(books));
         let gap = market.dice().below(3) as u32;
-        if market.dice().once_in(5) {
-            let (kind, len) = market.dice().of(&[(52, 36), (40, 12), (60, 52), (20, 32), (56, 20)]);
-            line.send_live(&about(kind, len, market.code(k)), gap);
+        let message = if market.dice().once_in(5) {
+            between(market, k)
         } else {
             let entries = market.dice().of(&[1, 1, 2, 2, 3, 4]);
-            let update = market.update(k, entries);
-            line.send_live(&update, gap);
-        }
+            market.update(k, entries)
+        };
+        line.send_live(&message, gap);
     }
+}
+
+/// A message about a code that changes no book.
+fn between(market: &mut Market, k: usize) -> Vec<u8> {
+    match market.dice().below(9) {
+        0 => about(52, 36, market.code(k)),
+        1 => about(60, 52, market.code(k)),
+        2 => message(20, 32),
+        3 => market.reference(k),
+        4 => market.equilibrium(k),
+        5 => market.imbalance(k),
+        _ => market.nominal(k),
+    }
+}
+
+/// Where a code is listed.
+fn place(code: u32) -> usize {
+    LISTED.iter().position(|&(listed, _)| listed == code).expect("a listed code")
 }
 
 /// The last orders of a book are matched or withdrawn, and the exchange says that it is empty.
 fn empty(line: &mut Line, market: &mut Market, code: u32) {
-    let k = LISTED.iter().position(|&(listed, _)| listed == code).expect("a listed code");
     line.wait(15);
-    let emptied = market.emptied(k);
+    let emptied = market.emptied(place(code));
     line.send_live(&emptied, 0);
+}
+
+/// An auction is over: equilibrium price and imbalance are set back.
+fn set_back(line: &mut Line, market: &mut Market, code: u32) {
+    line.wait(5);
+    line.send_live(&market.no_equilibrium(place(code)), 0);
+    line.send_live(&market.no_imbalance(place(code)), 0);
+}
+
+fn close(line: &mut Line, market: &mut Market, code: u32) {
+    line.wait(5);
+    let closing = market.closing(place(code));
+    line.send_live(&closing, 0);
 }
 
 /// Heartbeats every two seconds.
@@ -167,6 +203,7 @@ fn morning() -> Line {
     trade(&mut line, &mut market, 350);
     // a book that is empty while the line is quiet, and fills again; another that fills again at once
     empty(&mut line, &mut market, 66);
+    set_back(&mut line, &mut market, 5);
     pause(&mut line, 2);
     trade(&mut line, &mut market, 100);
     empty(&mut line, &mut market, 27);
@@ -178,6 +215,9 @@ fn morning() -> Line {
     // one that stays empty
     empty(&mut line, &mut market, 3988);
     trade(&mut line, &mut market, 100);
+    for code in [1, 700, 3988] {
+        close(&mut line, &mut market, code);
+    }
     pause(&mut line, 2);
     line
 }
