@@ -68,7 +68,8 @@ impl Desk {
     /// The lines of information and the layout of the panels below them, both in the room there is.
     fn arranged(&self, options: &Options, codes: &[Option<u64>], room: Size, time: u64) -> (Vec<String>, Layout) {
         let wanted = options.wanted();
-        let asked = Asked { panels: wanted, more: codes.len() - wanted, rows: options.rows };
+        let asked =
+            Asked { panels: wanted, more: codes.len() - wanted, rows: options.rows, strips: !options.no_strips };
         let mut kept = 1;
         loop {
             let layout = layout(asked, Size { lines: room.lines.saturating_sub(kept), ..room });
@@ -120,11 +121,12 @@ impl Desk {
         let badge = self.line.badge(time);
         let mut lines = Vec::new();
         for band in codes.chunks(layout.across) {
-            let panels = band.iter().map(|&code| Panel::new(self.line.books(), code, badge));
-            let columns: Vec<Vec<Text>> = panels.map(|panel| panel.lines(layout.columns, layout.rows)).collect();
+            let panels = band.iter().map(|&code| Panel::new(&self.line, code, badge));
+            let (columns, rows, strips) = (layout.columns, layout.rows, layout.strips);
+            let columns: Vec<Vec<Text>> = panels.map(|panel| panel.lines(columns, rows, strips)).collect();
             let side_by_side =
                 |at: usize| columns.iter().fold(Text::default(), |line, column| line.then(column[at].clone()));
-            lines.extend((0..panel::height(layout.rows)).map(side_by_side));
+            lines.extend((0..panel::height(layout.columns, rows, strips)).map(side_by_side));
         }
         lines
     }

@@ -1,4 +1,4 @@
-//! Which panels fit where: how wide, how many rows a side, how many beside each other.
+//! Which panels fit where: how wide, how many rows a side, with their strips or without, how many beside each other.
 
 use crate::panel::{height, width, Columns, COLUMNS};
 
@@ -18,6 +18,8 @@ pub struct Asked {
     pub more: usize,
     /// Most rows of a side.
     pub rows: usize,
+    /// Whether strips are wanted.
+    pub strips: bool,
 }
 
 /// A layout that fits.
@@ -25,6 +27,7 @@ pub struct Asked {
 pub struct Layout {
     pub columns: Columns,
     pub rows: usize,
+    pub strips: bool,
     pub across: usize,
     pub shown: usize,
 }
@@ -35,22 +38,25 @@ fn parts(count: usize, size: usize) -> usize {
 }
 
 /// As many rows as all the panels wanted leave room for; with one row a side, as many panels as fit.
-fn with(columns: Columns, asked: Asked, room: Size) -> Layout {
+fn with(columns: Columns, strips: bool, asked: Asked, room: Size) -> Layout {
     let across = room.columns / width(columns);
-    let fits = |rows: &usize| parts(asked.panels, across.max(1)) * height(*rows) <= room.lines;
+    let fits = |rows: &usize| parts(asked.panels, across.max(1)) * height(columns, *rows, strips) <= room.lines;
     let rows = (1..=asked.rows).rev().find(fits).unwrap_or(1);
-    let most = across * (room.lines / height(rows));
+    let most = across * (room.lines / height(columns, rows, strips));
     let shown = (asked.panels + asked.more).min(most);
     let bands = parts(shown, across.max(1)).max(1);
-    Layout { columns, rows, across: parts(shown, bands).max(1), shown }
+    Layout { columns, rows, strips, across: parts(shown, bands).max(1), shown }
 }
 
-/// The layout that shows most: all panels that are wanted, then three rows a side, then all columns, then more rows,
-/// then the widest panels.
+/// The layout that shows most: all panels that are wanted, then their strips, then three rows a side, then all columns, then
+/// more rows, then the widest panels.
 pub fn layout(asked: Asked, room: Size) -> Layout {
-    let worth =
-        |layout: &Layout| (layout.shown.min(asked.panels), layout.rows.min(3), layout.columns.len(), layout.rows);
-    let narrowest = with(COLUMNS[COLUMNS.len() - 1], asked, room);
-    let layouts = COLUMNS.iter().rev().map(|columns| with(columns, asked, room));
-    layouts.max_by_key(worth).unwrap_or(narrowest)
+    let worth = |layout: &Layout| {
+        let (panels, strips) = (layout.shown.min(asked.panels), layout.strips && layout.shown > 0);
+        (panels, strips, layout.rows.min(3), layout.columns.len(), layout.rows)
+    };
+    let narrowest = with(COLUMNS[COLUMNS.len() - 1], false, asked, room);
+    let kinds = COLUMNS.iter().rev().flat_map(|&columns| [(columns, false), (columns, true)]);
+    let layouts = kinds.filter(|(_, strips)| asked.strips || !strips);
+    layouts.map(|(columns, strips)| with(columns, strips, asked, room)).max_by_key(worth).unwrap_or(narrowest)
 }

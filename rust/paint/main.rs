@@ -7,6 +7,7 @@ mod desk;
 mod layout;
 mod options;
 mod panel;
+mod strip;
 mod svg;
 mod terminal;
 #[cfg(test)]

@@ -15,13 +15,17 @@ paint [FILE] [OPTIONS]   panels of order books from a capture, stepping through 
   --panels N      how many panels (6, and more where there is room)
   --codes A,B,..  the books to show (the first that have a slot)
   --rows N        most rows of a side, 1 to 10 (10)
+  --no-strips     leaves the price strips out, for more rows
   --width N       columns to paint in (the terminal's, or 132)
   --height N      lines to paint in (the terminal's, or 60)
   --help          this text
 
 A panel without rows says why: 'empty book' is a book that has been emptied, 'no book' a code that has none, 'not sound'
-a book that cannot be read, and 'no book yet' a panel that waits for a code. Under a stale badge rows, and the words
-'empty book', are marked with ~.
+a book that cannot be read, and 'no book yet' a panel that waits for a code. Under each book is its price strip, where
+there is room for all panels with theirs: nominal (nm) and closing (cl) price, indicative equilibrium price (IEP, ep) and
+its volume (ev), reference price (ref, rf), order imbalance (imbal, im) with B for buyers, S for sellers and N for none,
+lower (lo) and upper (up) price; a dash is what has not come, n/a what the exchange says there is not. Under a stale
+badge rows, strips and the words 'empty book' are marked with ~.
 ";
 
 /// Panels where none are asked for.
@@ -40,6 +44,7 @@ pub struct Options {
     pub panels: Option<usize>,
     pub codes: Vec<u64>,
     pub rows: usize,
+    pub no_strips: bool,
     pub width: Option<usize>,
     pub height: Option<usize>,
 }
@@ -59,6 +64,7 @@ impl Default for Options {
             panels: None,
             codes: Vec::new(),
             rows: 10,
+            no_strips: false,
             width: None,
             height: None,
         }
@@ -72,6 +78,7 @@ impl Options {
         while let Some(word) = words.next() {
             match word.as_str() {
                 "--plain" => options.plain = true,
+                "--no-strips" => options.no_strips = true,
                 "--help" | "-h" => options.help = true,
                 name if name.starts_with('-') && name != "-" => options.set(name, &mut words)?,
                 file if options.file.is_none() => options.file = Some(file.to_string()),

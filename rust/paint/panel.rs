@@ -1,7 +1,8 @@
-//! A panel: one book between borders, offers over bids, the badge in its corner.
+//! A panel: one book between borders, offers over bids, its price strip under them, the badge in its corner.
 
+use crate::strip::{self, Shown};
 use crate::text::{Style, Text};
-use mmdh::{Answer, Badge, Books, Refused, Row};
+use mmdh::{Answer, Badge, Line, Refused, Row};
 
 /// Columns of price, quantity and orders; a narrow panel leaves the later ones out.
 pub type Columns = &'static [usize];
@@ -16,8 +17,9 @@ pub fn width(columns: Columns) -> usize {
     MARK + columns.iter().sum::<usize>() + 3
 }
 
-pub fn height(rows: usize) -> usize {
-    2 * rows + 4
+/// Lines of a panel with so many rows a side, and with the strip or without.
+pub fn height(columns: Columns, rows: usize, strip: bool) -> usize {
+    2 * rows + 4 + if strip { 1 + strip::lines(width(columns) - 2) } else { 0 }
 }
 
 /// What a panel shows of its book.
@@ -34,21 +36,24 @@ pub struct Panel {
     code: Option<u64>,
     badge: Badge,
     content: Content,
+    strip: Shown,
 }
 
 impl Panel {
-    pub fn new(books: &Books<'_>, code: Option<u64>, badge: Badge) -> Panel {
+    pub fn new(line: &Line, code: Option<u64>, badge: Badge) -> Panel {
+        let books = line.books();
         let content = match code.map(|code| (books.bids(code), books.offers(code))) {
             None => Content::Missing("no book yet"),
             Some((Ok(bids), Ok(offers))) if bids.is_empty() && offers.is_empty() => Content::Empty,
             Some((Ok(bids), Ok(offers))) => Content::Rows { bids: bids.to_vec(), offers: offers.to_vec() },
             Some((Err(refused), _) | (_, Err(refused))) => Content::Missing(no_book(refused)),
         };
-        Panel { code, badge, content }
+        let strip = Shown::of(code.map(|code| line.strips().strip(code)), badge);
+        Panel { code, badge, content, strip }
     }
 
-    /// The panel's lines, with so many rows a side.
-    pub fn lines(&self, columns: Columns, rows: usize) -> Vec<Text> {
+    /// The panel's lines, with so many rows a side, and with the strip or without.
+    pub fn lines(&self, columns: Columns, rows: usize, strip: bool) -> Vec<Text> {
         let inside = width(columns) - 2;
         let mut lines = vec![rule('┌', inside, '┐'), framed(self.title(inside))];
         match &self.content {
@@ -59,6 +64,10 @@ impl Panel {
             }
             Content::Empty => lines.extend(words(rows, inside, "empty book", self.is_old())),
             Content::Missing(why) => lines.extend(words(rows, inside, why, false)),
+        }
+        if strip {
+            lines.push(rule('├', inside, '┤'));
+            lines.extend(self.strip.texts(inside).into_iter().map(framed));
         }
         lines.push(rule('└', inside, '┘'));
         lines
@@ -141,7 +150,7 @@ fn cells(columns: Columns, row: &Row) -> String {
 }
 
 /// A cell in its column with a space before it; signs for a number that would run over.
-fn fitted(cell: &str, width: usize) -> String {
+pub fn fitted(cell: &str, width: usize) -> String {
     if cell.len() < width {
         format!("{:>width$}", cell, width = width)
     } else {
@@ -150,14 +159,14 @@ fn fitted(cell: &str, width: usize) -> String {
 }
 
 /// Thousandths as dollars.
-fn price(thousandths: i64) -> String {
+pub fn price(thousandths: i64) -> String {
     let sign = if thousandths < 0 { "-" } else { "" };
     let size = thousandths.unsigned_abs();
     format!("{}{}.{:03}", sign, size / 1_000, size % 1_000)
 }
 
 /// A number with its thousands set apart.
-fn grouped(number: u64) -> String {
+pub fn grouped(number: u64) -> String {
     let digits = number.to_string();
     let apart = digits.char_indices().map(|(at, digit)| match (digits.len() - at) % 3 {
         0 if at > 0 => format!(",{}", digit),
@@ -167,7 +176,7 @@ fn grouped(number: u64) -> String {
 }
 
 /// A number in at most five signs where it can be.
-fn short(number: u64) -> String {
+pub fn short(number: u64) -> String {
     match number {
         0..=9_999 => number.to_string(),
         10_000..=9_999_999 => format!("{}K", number / 1_000),

@@ -6,7 +6,8 @@ use crate::layout::Size;
 use crate::options::Options;
 use crate::svg::picture;
 use crate::text::{Style, Text};
-use exchange::{book_message, header, message, session, unit, Entry, CLEAR};
+use exchange::{book_message, closing, equilibrium, header, imbalance, message, nominal, reference, session, unit};
+use exchange::{Entry, CLEAR};
 use mmdh::Badge;
 
 /// The morning, as far as it had come so many milliseconds after its first unit.
@@ -88,10 +89,10 @@ fn panels_that_do_not_fit_are_announced() {
     let (desk, time) = morning(12_000);
     for (columns, lines) in [(30, 12), (80, 10), (24, 24), (9, 40), (200, 3)] {
         let painted = frame(&desk, "", columns, lines, time);
-        let tops = painted.iter().map(|line| line.matches("+-").count()).sum::<usize>() / 3;
+        let titles = painted.iter().map(|line| line.matches(" green |").count()).sum::<usize>();
         let words = painted.join(" ").split_whitespace().collect::<Vec<_>>().join(" ");
-        let announced = format!("{} of 6 panels do not fit", 6 - tops);
-        assert!(tops < 6 && words.contains(&announced), "{} by {}: {}", columns, lines, words);
+        let announced = format!("{} of 6 panels do not fit", 6 - titles);
+        assert!(titles < 6 && words.contains(&announced), "{} by {}: {}", columns, lines, words);
     }
     assert!(!frame(&desk, "", 80, 24, time).join(" ").contains("fit"));
     assert!(frame(&desk, "--codes 700,5,16", 27, 13, time).join(" ").contains("2 of 3 panels do not fit 5 16"));
@@ -126,8 +127,9 @@ fn stale_rows_look_stale_and_sides_differ() {
         let spans: Vec<_> = painted.into_iter().flat_map(|line| line.spans).collect();
         [Style::Bid, Style::Offer, Style::Old].map(|style| spans.iter().filter(|span| span.style == style).count())
     };
-    assert_eq!(styles(morning(12_000)), [18, 18, 0]);
-    assert_eq!(styles(morning(60_000)), [0, 0, 36]);
+    // a row of each side in six panels, and four lines of each one's strip
+    assert_eq!(styles(morning(12_000)), [6, 6, 0]);
+    assert_eq!(styles(morning(60_000)), [0, 0, 6 + 6 + 24]);
     let (desk, time) = morning(60_000);
     assert!(frame(&desk, "", 80, 24, time).iter().any(|line| line.contains("|B~") || line.contains("|O~")));
 }
@@ -180,10 +182,80 @@ fn the_emptied_books_of_the_morning() {
         let (desk, time) = morning(at);
         frame(&desk, &format!("--codes {}", code), 80, 24, time).join(" ").contains("empty book")
     };
-    for (code, filled, empty) in [("66", 11_000, 12_000), ("27", 17_300, 17_340), ("3988", 32_000, 60_000)] {
+    for (code, filled, empty) in [("66", 11_000, 12_000), ("27", 17_370, 17_390), ("3988", 31_690, 60_000)] {
         assert!(!emptied(filled, code) && emptied(empty, code), "{}", code);
     }
     assert!(!emptied(60_000, "66") && !emptied(60_000, "27"), "filled again");
+}
+
+/// What stands in a panel's strip.
+fn strip_of(painted: &[String]) -> Vec<String> {
+    let from = painted.iter().position(|line| line.contains("nominal") || line.contains("nm ")).expect("a strip");
+    painted[from..].iter().take_while(|line| !line.contains("+-")).map(|line| line.replace('|', "")).collect()
+}
+
+/// Under a book stands what came last of each value, and a dash for what has not come.
+#[test]
+fn a_strip_stands_under_its_book() {
+    let bid = Entry { quantity: 4_000, price: 9_730, orders: 2, level: 1, ..Entry::default() };
+    let messages = [
+        book_message(5, &[bid]),
+        nominal(5, 9_730),
+        equilibrium(5, -20, 120_400),
+        reference(5, [9_700, 8_730, 10_670]),
+        imbalance(5, b'B', 4_000),
+        closing(5, 9_750),
+        nominal(5, 9_740),
+        imbalance(5, b' ', 77),
+    ];
+    let none = [" nominal        - closing        -", " IEP            - volume         -"];
+    let at = |time| strip_of(&frame(&live(&messages, time), "--codes 5", 80, 24, time));
+    assert_eq!(at(1)[..2], none);
+    assert_eq!(at(1)[2..], [" ref            - imbal          -", " lower          - upper          -"]);
+    assert_eq!(at(2)[0], " nominal    9.730 closing        -");
+    assert_eq!(at(3)[1], " IEP       -0.020 volume   120,400");
+    assert_eq!(at(4)[2..], [" ref        9.700 imbal          -", " lower      8.730 upper     10.670"]);
+    assert_eq!(at(5)[2], " ref        9.700 imbal    B 4,000");
+    assert_eq!(at(6)[0], " nominal    9.730 closing    9.750");
+    assert_eq!(at(7)[0], " nominal    9.740 closing    9.750");
+    assert_eq!(at(8)[2], " ref        9.700 imbal        n/a");
+    // the book above it is as it was, and six of them have room for short names
+    let painted = frame(&live(&messages, 8), "--codes 5,6,7,8,9,10", 80, 24, 8);
+    assert!(painted.join(" ").contains("|B     9.730  4000   2 |"), "{:#?}", painted);
+    assert_eq!(strip_of(&painted)[1][..22], *" ep  -0.020 ev 120,400");
+}
+
+/// A code may have a strip and no book; one with neither has dashes, and no old ones.
+#[test]
+fn a_strip_needs_no_book() {
+    let desk = live(&[nominal(5, 9_730)], 1);
+    let painted = frame(&desk, "--codes 5,6", 80, 24, 1).join(" ");
+    assert!(painted.matches("no book").count() == 2 && painted.contains("nominal    9.730"), "{}", painted);
+    let stale = frame(&desk, "--codes 5,6", 80, 24, 9_000).join(" ");
+    assert!(stale.contains("|~nominal    9.730") && stale.contains("| nominal        -"), "{}", stale);
+    assert!(frame(&desk, "", 80, 24, 1).join(" ").contains("0 of 0 books"));
+}
+
+/// A number too long for its cell is never cut.
+#[test]
+fn a_value_that_does_not_fit_is_not_shown_in_part() {
+    let messages = [equilibrium(5, i32::MIN, u64::MAX), imbalance(5, b'S', u64::MAX), closing(5, i32::MAX)];
+    let strip = strip_of(&frame(&live(&messages, 3), "--codes 5", 80, 24, 3)).join(" ");
+    assert_eq!(strip.matches("########").count(), 2, "{}", strip);
+    assert!(strip.contains("volume      2e19") && strip.contains("imbal     S 2e19"), "{}", strip);
+}
+
+/// All panels first, then their strips; without them, more rows.
+#[test]
+fn strips_give_way_to_panels_and_on_demand() {
+    let (desk, time) = morning(12_000);
+    let shown = |words: &str, columns, lines| {
+        let painted = frame(&desk, words, columns, lines, time).join(" ");
+        (painted.matches(" green |").count(), painted.matches(" nm ").count(), painted.matches("|B ").count())
+    };
+    assert_eq!(shown("", 80, 24), (6, 6, 6));
+    assert_eq!(shown("--no-strips", 80, 24), (6, 0, 18));
+    assert_eq!(shown("", 80, 23), (6, 0, 18));
 }
 
 #[test]
