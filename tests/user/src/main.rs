@@ -4,7 +4,7 @@ use mmdh::{Connect, Line};
 
 fn main() -> Result<(), Box<dyn std::error::Error>> {
     let bytes = std::fs::read(std::env::args().nth(1).ok_or("say a capture")?)?;
-    let mut line = Line::new(1_000, 128)?; // a silence limit of 1,000 ms, room for 128 books
+    let mut line = Line::new(1_000, 128)?; // a silence limit of 1,000 ms, room for 128 books and their strips
     line.connect(Connect::Fresh, 0)?;
     for piece in bytes.chunks(1_000) {
         // at 10 ms; what is not whole waits, and after a refusal nothing more is taken
@@ -16,5 +16,6 @@ fn main() -> Result<(), Box<dyn std::error::Error>> {
         println!("{}: {}", line.badge(time), line.reason(time));
     }
     println!("{:?}", line.books().bids(700));
+    println!("{:?}", line.strips().strip(700));
     Ok(())
 }
