@@ -10,7 +10,7 @@ use borrow.Author.Tests.{not-false, eqb-true, leb-true}
 use Rattle.ground.specs.Choice.{oneOf, first, all}
 use Rattle.ground.proofs.Bools.{both, join, split, is-T}
 use Rattle.ground.proofs.Choices.{first-may, first-skips}
-use Rattle.slots.specs.Layout.{orAsItWas, unsoundAt}
+use Rattle.slots.specs.Layout.{orAsItWas, placeIn as placeOf, unsoundAt}
 use Rattle.slots.proofs.Steps as steps
 use Rattle.slots.proofs.Values as values
 use Rattle.slots.specs.declared.Slot.the-variants.{Held}
@@ -86,6 +86,32 @@ stripListed code t =
   where
     answers : T (oneOf (reading.readAnswer code t) (15 ∷ 4 ∷ 18 ∷ 0 ∷ []))
     answers = unfold reading.readAnswer all oneOf in first-may (λ n. oneOf n (15 ∷ 4 ∷ 18 ∷ 0 ∷ [])) _ 0 tt tt
+
+-- the answer is the reading's own, and 0 tells that the code's strip is sound
+isZero : ℕ → Bool
+isZero n = eqb n 0
+
+read-zero : (code : ℕ) (t : List ℕ) → readStrip code t .answer ≡ 0 → reading.readAnswer code t ≡ 0
+unfolding readStrip
+read-zero code t e = go (eqb (reading.readAnswer code t) 0) refl e
+  where
+    go : (b : Bool) → eqb (reading.readAnswer code t) 0 ≡ b
+        → cond b (reading.stripShown (strip.stripIn code t)) (reading.stripRefused (reading.readAnswer code t)) .answer ≡ 0 → reading.readAnswer code t ≡ 0
+    go true h q = eqb-true (reading.readAnswer code t) 0 h
+    go false h q = q
+
+read-sound : (code : ℕ) (t : List ℕ) → reading.readAnswer code t ≡ 0 → unsoundAt strips (placeOf strips code t) t ≡ false
+unfolding reading.readAnswer isZero
+read-sound code t z =
+    let ts : List (Bool × ℕ) =
+    (not (listedCode code), 15) ∷ (reading.noStrip (placeOf strips code t), 4) ∷ (unsoundAt strips (placeOf strips code t) t, 18) ∷ [] in
+    first-skips isZero (λ n. eqb n 18) ts 0 (subst (λ (n : ℕ). T (isZero n)) (sym z) tt) tt
+
+pub stripShown : D.StripShown
+unfolding readStrip
+stripShown code t e =
+    let z = read-zero code t e in
+    (rw z, values.value-well strips lawful (placeOf strips code t) t (read-sound code t z) .1)
 
 -- a list of rows tells what the first that passes says, and nothing else
 tells : (ts : List (Bool × Answer)) (n : ℕ) → number (first ts (Take 0)) ≡ n → D.Tells ts n

@@ -26,7 +26,7 @@ use Rattle.slots.specs.Layout as table
 use Rattle.strips.specs.Words as strip
 use Rattle.strips.specs.Words.{stripWidth, emptyStrip, soundStrip, stripAfter}
 use Rattle.strips.specs.Table.{strips, stripIn}
-use Rattle.strips.specs.Reading.{readStrip}
+use Rattle.strips.specs.Reading.{stripShown, readStrip}
 use Rattle.feed.specs.Messages.{kind, statusOf, logonStatus}
 use Rattle.feed.specs.Feeds.{newGiven}
 use Rattle.feed.specs.Events.{State, Event, Connect, Arrive, Cut, Message, news, timeOf, onMessage}
@@ -60,6 +60,10 @@ ReadListed = (code side rank : ℕ) (t : List ℕ) → T (oneOf (readRow code si
 
 abbrev pub StripListed : Type 0
 StripListed = (code : ℕ) (t : List ℕ) → T (oneOf (readStrip code t .answer) (15 ∷ 4 ∷ 18 ∷ 0 ∷ []))
+
+-- what is shown of a strip is a sound one: no price that is none, no direction but the four
+abbrev pub StripShown : Type 0
+StripShown = (code : ℕ) (t : List ℕ) → readStrip code t .answer ≡ 0 → (readStrip code t ≡ stripShown (stripIn code t)) × (soundStrip (stripIn code t) ≡ true)
 
 -- .. under exactly its stated condition, both ways: n is the number of the first row whose test passes, and 0 where none does
 abbrev pub Tells : List (Bool × Answer) → ℕ → Type 0
