@@ -4,7 +4,7 @@ use native.Mathlib.Nat.{pow-suc, div-one, div-self, div-eq-of-lt, mul-div-mul-ri
 use native.Mathlib.Omega.{arith}
 use mathlib.Core.Path.{_≡_, refl, ap}
 use mathlib.Core.Bool.{true}
-use lib.Bits.{bitOr, or-lt, or-shr, or-step}
+use lib.Bits.{bitOr, or-shr, or-step}
 use lib.Dec.{eqb, lit<}
 use lib.ListN.{length}
 use lib.Pow.{pow-pos, pow-lt}
@@ -27,10 +27,6 @@ low-bit a b e = rw (or-step a b) (omega (arith, e))
 
 same-bit : (a b : ℕ) → b % 2 ≡ 0 → bitOr a b % 2 ≡ a % 2
 same-bit a b e = rw (or-step a b) (omega (arith, e))
-
--- the flags stay below so many bits
-pub flags-below : (n k f : ℕ) → k < n → f < 2 ^ n → bitOr f (2 ^ k) < 2 ^ n
-flags-below n k f h l = or-lt n f (2 ^ k) l (pow-lt h)
 
 module _ (k v : ℕ) (s : Strip) where
   -- the value that came has come, and what came is it

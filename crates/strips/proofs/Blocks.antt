@@ -1,40 +1,29 @@
 -- What the code of src/words.rt comes to, return by return (specs/Words, specs/Code/Shapes). Assumes nothing.
-use Prim.Native.Nat.{ℕ, zero, suc, _+_, _-_, _*_, _/_, _%_, _^_, _≤_, _<_}
+use Prim.Native.Nat.{ℕ, _+_, _-_, _*_, _/_, _%_, _^_, _≤_, _<_}
 use native.Mathlib.Numerals.{add-one}
 use native.Mathlib.Omega.{arith}
 use mathlib.Core.Path.{_≡_, refl, sym, ap, _∙_}
 use mathlib.Core.Bool.{Bool, true, false, _&&_}
 use mathlib.Core.List.{List, [], _∷_}
 use lib.Bits.{bitOr}
-use lib.Dec.{ltb, eqb}
-use lib.ListN.{length, getD, set, drop, length-set, List·getD-map}
+use lib.Dec.{eqb}
+use lib.ListN.{length, getD, set, drop, length-set}
 use lib.Pow.{pow-lt}
 use lib.Seq.{drop-cons, lt-length-set}
 use borrow.Author.Tests.{lt-ltb, le-ltb, eq-eqb, ne-eqb}
-use Rattle.ground.specs.Choice.{oneOf}
 use Rattle.wire.specs.Number.{field}
 use Rattle.slots.proofs.Overlay.{sets-overlay, overlay-whole}
-use Rattle.strips.specs.Forms.{place, forms, fieldsOf, sorts, directions, brings}
+use Rattle.strips.specs.Forms.{fieldsOf, sorts, brings}
 use Rattle.strips.specs.Words.{stripWidth, valueCount, wordsFrom, stripOf, wordsOf, come, legal, soundValue, soundFrom, soundStrip, sound, stored, storedAll, stripAfter}
-use Rattle.strips.specs.Code.Shapes.{shapeOf, fieldOf, fieldsFrom, Inside, Spans}
+use Rattle.strips.specs.Code.Shapes.{shapeOf, fieldOf, fieldsFrom, Spans}
 use Rattle.strips.specs.declared.Sort.{Sort}
-use Rattle.strips.specs.declared.Sort.the-variants.{Price, Quantity, Direction, Imbalance}
+use Rattle.strips.specs.declared.Sort.the-variants.{Price}
 use Rattle.strips.specs.declared.Field.{Field}
 use Rattle.strips.specs.declared.Shape.{Shape}
 use Rattle.strips.specs.declared.Strip.{Strip}
-use Rattle.strips.proofs.Lists.{lists, same-fields, span-first, span-rest, from-more}
+use Rattle.strips.proofs.Lists.{lists, same-fields, number-is, sort-is, span-rest, from-more}
 
--- a strip read from its words
-pub strip-read : (w : List ℕ) → _≡_ {A = Strip}
-    (record {
-      flags = getD w 1 0;
-      values = getD w 2 0 ∷ getD w 3 0 ∷ getD w 4 0 ∷ getD w 5 0 ∷ getD w 6 0 ∷ getD w 7 0 ∷ getD w 8 0 ∷ getD w 9 0 ∷ getD w 10 0 ∷ [];
-    })
-    (stripOf w)
-unfolding stripOf wordsFrom
-strip-read w = refl
-
--- and written to them, word by word
+-- a strip written to its words, one by one
 module _ (t : List ℕ) (c f a b d e g h i j k : ℕ) where
   abbrev twelve : List ℕ
   twelve = set (set (set (set (set (set (set (set (set (set (set (set t 0 c) 1 f) 2 a) 3 b) 4 d) 5 e) 6 g) 7 h) 8 i) 9 j) 10 k) 11 0
@@ -49,28 +38,10 @@ unfolding wordsOf wordsFrom
 strip-written t c s l = sets-overlay t 0 (wordsOf c s) (omega (arith, l)) ∙ overlay-whole (wordsOf c s) t (sym l)
 
 -- what a value can be, by its kind
-module _ (q : Sort) (v : ℕ) where
-  pub legal-price : q ≡ Price → ltb v 4294967296 ≡ legal q v
-  unfolding legal
-  legal-price e = rw e
-
-  pub legal-quantity : q ≡ Quantity → true ≡ legal q v
-  unfolding legal
-  legal-quantity e = rw e
-
-  pub legal-direction : (b : Bool) → q ≡ Direction → b ≡ oneOf v directions → b ≡ legal q v
-  unfolding legal
-  legal-direction b e h = rw e h
-
-  pub legal-imbalance : q ≡ Imbalance → true ≡ legal q v
-  unfolding legal
-  legal-imbalance e = rw e
+pub legal-by : (q p : Sort) (v : ℕ) (b : Bool) → q ≡ p → b ≡ legal p v → b ≡ legal q v
+legal-by q p v b e h = rw e h
 
 -- whether a value has come, and whether it is sound
-pub come-told : (k : ℕ) (s : Strip) → eqb (s .flags / 2 ^ k % 2) 1 ≡ come k s
-unfolding come
-come-told k s = refl
-
 module _ (q : Sort) (k : ℕ) (s : Strip) (b : Bool) (e : b ≡ come k s) where
   pub value-come : (r : Bool) → b ≡ true → r ≡ legal q (getD (s .values) k 0) → r ≡ soundValue q k s
   value-come r y h = h ∙ rw (sym e ∙ y)
@@ -92,8 +63,8 @@ unfolding soundStrip
 flags-high s h = rw (le-ltb (s .flags) 512 (omega (arith, h)))
 
 sorts-more : (k : ℕ) → k < valueCount → drop k sorts ≡ fieldOf k .sort ∷ drop (k + 1) sorts
-unfolding fieldOf fieldsOf
-sorts-more k h = drop-cons sorts k Price h ∙ (λ i. List·getD-map (λ (f : Field). f .sort) (fieldsOf forms) k (place 0 0 Price 0) i ∷ drop (sym (add-one k) i) sorts)
+unfolding fieldsOf
+sorts-more k h = drop-cons sorts k Price h ∙ (λ i. sort-is k i ∷ drop (sym (add-one k) i) sorts)
 
 module _ (s : Strip) (k : ℕ) (p : Judging s k) where
   module _ (h : k < valueCount) (q : Sort) (b : Bool) (e : q ≡ fieldOf k .sort) (j : b ≡ soundValue q k s) where
@@ -128,42 +99,22 @@ stored-told k v s h =
     let e : 1 * 2 ^ k % 18446744073709551616 ≡ 2 ^ k = omega (arith, l) in
     rw e
 
--- the field of value k has its number
-abbrev Counted : ℕ → List Field → Type 0
-Counted i [] = Unit {0}
-Counted i (f ∷ fs) = (f .number ≡ i) × Counted (suc i) fs
-
-counted-at : (i : ℕ) (fs : List Field) → Counted i fs → (j : ℕ) → j < length fs → getD fs j (place 0 0 Price 0) .number ≡ i + j
-counted-at i [] c j h = absurd (omega (arith, h))
-counted-at i (f ∷ fs) c zero h = c .0 ∙ omega arith
-counted-at i (f ∷ fs) c (suc j) h = counted-at (suc i) fs (c .1) j (omega (arith, h)) ∙ omega arith
-
-number-is : (k : ℕ) → k < valueCount → fieldOf k .number ≡ k
-unfolding fieldOf fieldsOf
-number-is k h =
-    counted-at 0 (fieldsOf forms) (refl, (refl, (refl, (refl, (refl, (refl, (refl, (refl, (refl, tt))))))))) k h ∙ omega arith
-
 -- one field after the other: what is still to come from here makes what all make
 pub record Storing (m : List ℕ) (s : Strip) (first count : ℕ) (x : Strip) (k left : ℕ) : Type 0 where
-  pub few : k + left ≤ valueCount
   pub spans : Spans m k left
   pub same : storedAll m (fieldsFrom k left) x ≡ storedAll m (fieldsFrom first count) s
 
 pub store-starts : (m : List ℕ) (s : Strip) (first count : ℕ) → Spans m first count → Storing m s first count s first count
-store-starts m s first count p = record { few = p .few; spans = p; same = refl }
+store-starts m s first count p = record { spans = p; same = refl }
 
 module _ (m : List ℕ) (s : Strip) (first count : ℕ) (x : Strip) (k left : ℕ) (p : Storing m s first count x k left) where
-  pub store-inside : 0 < left → Inside m (fieldOf k)
-  store-inside h = span-first m k left (p .spans) h
-
   pub store-goes : (v : ℕ) (y : Strip) → 0 < left → v ≡ brings m (fieldOf k) → y ≡ stored k v x → Storing m s first count y (k + 1) (left - 1)
   unfolding storedAll
   store-goes v y h e g = record {
-    few = omega (arith, p .few, h);
     spans = span-rest m k left (p .spans) h;
     same =
         ap (storedAll m (fieldsFrom (k + 1) (left - 1)))
-        (g ∙ (λ i. stored (sym (number-is k (omega (arith, p .few, h))) i) (e i) x))
+        (g ∙ (λ i. stored (sym (number-is k (omega (arith, p .spans .few, h))) i) (e i) x))
         ∙ ap (λ (fs : List Field). storedAll m fs x) (sym (from-more k left h)) ∙ p .same;
   }
 
@@ -189,14 +140,9 @@ spare-zero w s b z e h = h ∙ rw (eq-eqb (getD w 11 0) 0 z) (ap soundStrip e)
 pub ruleset blocks = (
   lists,
   lt-length-set,
-  strip-read,
   twelve-long,
   strip-written,
-  legal-price,
-  legal-quantity,
-  legal-direction,
-  legal-imbalance,
-  come-told,
+  legal-by,
   value-come,
   value-none,
   judge-starts,
@@ -206,7 +152,6 @@ pub ruleset blocks = (
   judge-ends,
   stored-told,
   store-starts,
-  store-inside,
   store-goes,
   store-ends,
   after-told,

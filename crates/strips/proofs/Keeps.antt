@@ -1,14 +1,15 @@
 -- A listed message leaves a sound strip sound (specs/Forms, specs/Words). Assumes nothing.
-use Prim.Native.Nat.{ℕ, suc, _+_, _^_, _<_}
+use Prim.Native.Nat.{ℕ, zero, suc, _+_, _^_, _≤_, _<_}
 use native.Mathlib.Decide.{ℕ-discrete}
 use native.Mathlib.Omega.{arith}
 use mathlib.Core.Path.{_≡_, refl, sym, subst, _∙_}
-use mathlib.Core.Bool.{Bool, true, true≢false}
+use mathlib.Core.Bool.{true, true≢false}
 use mathlib.Core.List.{List, [], _∷_}
 use mathlib.Core.Option.{Option·some-injective}
-use lib.Bits.{bitOr}
-use lib.Dec.{T, ltb, lit<}
+use lib.Bits.{bitOr, or-lt}
+use lib.Dec.{ltb}
 use lib.ListN.{length, getD, length-set}
+use lib.Pow.{pow-lt}
 use borrow.Author.Tests.{ltb-true, lt-ltb}
 use Rattle.ground.specs.Choice.{all}
 use Rattle.ground.proofs.Bools.{both, join}
@@ -16,40 +17,17 @@ use Rattle.wire.specs.Number.{field, biased, word32}
 use Rattle.wire.specs.Units.{msgType}
 use Rattle.wire.specs.Codes.{securityCode, listedCode}
 use Rattle.slots.proofs.Steps.{Preserves, Modest}
-use Rattle.strips.specs.Forms.{Form, formOf, formIn, fieldsOf, sorts, valueOf, brings, listedAs, listedField, listedStrip}
-use Rattle.strips.specs.Words.{valueCount, value, legal, soundValue, soundFrom, soundStrip, stored, storedAll, stripAfter}
+use Rattle.strips.specs.Forms.{formIn, sorts, valueOf, brings, listedAs, listedField, listedStrip}
+use Rattle.strips.specs.Words.{valueCount, legal, soundValue, soundFrom, soundStrip, stored, storedAll, stripAfter}
+use Rattle.strips.specs.Code.Shapes.{shapeOf, fieldOf, fieldsFrom}
 use Rattle.strips.specs.Table.{strips, stepOf}
 use Rattle.strips.specs.declared.Sort.{Sort}
 use Rattle.strips.specs.declared.Sort.the-variants.{Price, Quantity, Direction, Imbalance}
 use Rattle.strips.specs.declared.Field.{Field}
-use Rattle.strips.specs.declared.Shape.{Shape}
 use Rattle.strips.specs.declared.Strip.{Strip}
-use Rattle.strips.proofs.Lists.{by-type}
-use Rattle.strips.proofs.Bits.{flags-below, come-own, value-own, come-other, value-other}
+use Rattle.strips.proofs.Lists.{same-fields, few-values, number-is, sort-is}
+use Rattle.strips.proofs.Bits.{come-own, value-own, come-other, value-other}
 use Rattle.strips.proofs.Lawful.{Nine, Well}
-
--- a field's value is one of the nine, of the field's kind
-pub record Numbered (f : Field) : Type 0 where
-  pub low : f .number < valueCount
-  pub sorted : getD sorts (f .number) Price ≡ f .sort
-
-abbrev pub AllNumbered : List Field → Type 0
-AllNumbered [] = Unit {0}
-AllNumbered (f ∷ fs) = Numbered f × AllNumbered fs
-
-ok : {f : Field} → T (ltb (f .number) valueCount) → getD sorts (f .number) Price ≡ f .sort → Numbered f
-ok l e = record { low = lit< l; sorted = e }
-
-pub all-numbered : (t : ℕ) → AllNumbered (formOf t .fields)
-unfolding fieldsOf
-all-numbered =
-    by-type (λ (f : Form) (h : Shape) (b : Bool). AllNumbered (f .fields))
-    (ok tt refl, tt)
-    (ok tt refl, (ok tt refl, tt))
-    (ok tt refl, (ok tt refl, (ok tt refl, tt)))
-    (ok tt refl, (ok tt refl, tt))
-    (ok tt refl, tt)
-    tt
 
 -- a listed field brings what its kind can be
 brought-legal : (q : Sort) (m : List ℕ) (raw : ℕ) → listedAs q raw ≡ true → legal q (valueOf q m raw) ≡ true
@@ -79,17 +57,17 @@ module _ (k v : ℕ) (s : Strip) (long : k < length (s .values)) where
       (from-sound qs (i + 1) (λ j l e. own (suc j) (omega (arith, l)) (omega (arith, e))) (t .1))
 
 -- storing keeps nine values
-pub stored-nine : (k v : ℕ) (s : Strip) → Nine s → Nine (stored k v s)
+stored-nine : (k v : ℕ) (s : Strip) → Nine s → Nine (stored k v s)
 unfolding stored
 stored-nine k v s n = length-set (s .values) k v ∙ n
 
-pub stored-well : (k v : ℕ) (s : Strip) → k < valueCount → legal (getD sorts k Price) v ≡ true → Well s → Well (stored k v s)
+stored-well : (k v : ℕ) (s : Strip) → k < valueCount → legal (getD sorts k Price) v ≡ true → Well s → Well (stored k v s)
 unfolding soundStrip stored
 stored-well k v s l h w =
     let t = both (ltb (s .flags) 512) (soundFrom 0 sorts s) (w .1) in (
       stored-nine k v s (w .0),
       join (ltb (bitOr (s .flags) (2 ^ k)) 512) (soundFrom 0 sorts (stored k v s))
-          (lt-ltb (bitOr (s .flags) (2 ^ k)) 512 (flags-below valueCount k (s .flags) l (ltb-true (s .flags) 512 (t .0))))
+          (lt-ltb (bitOr (s .flags) (2 ^ k)) 512 (or-lt valueCount (s .flags) (2 ^ k) (ltb-true (s .flags) 512 (t .0)) (pow-lt l)))
           (from-sound k v s (omega (arith, w .0)) sorts 0 (λ j b e. let f : k ≡ j = omega (arith, e) in subst (λ (n : ℕ). legal (getD sorts n Price) v ≡ true) f h) (t .1)),
     )
 
@@ -99,26 +77,30 @@ unfolding storedAll
 all-nine m [] s n = n
 all-nine m (f ∷ fs) s n = all-nine m fs (stored (f .number) (brings m f) s) (stored-nine (f .number) (brings m f) s n)
 
-all-well : (m : List ℕ) (fs : List Field) (s : Strip) → AllNumbered fs → all (listedField m) fs ≡ true → Well s → Well (storedAll m fs s)
-unfolding storedAll all
-all-well m [] s p h w = w
-all-well m (f ∷ fs) s p h w =
-    let t = both (listedField m f) (all (listedField m) fs) h in
+all-well : (m : List ℕ) (k n : ℕ) (s : Strip) → k + n ≤ valueCount → all (listedField m) (fieldsFrom k n) ≡ true → Well s → Well (storedAll m (fieldsFrom k n) s)
+unfolding storedAll all fieldsFrom
+all-well m k zero s l h w = w
+all-well m k (suc n) s l h w =
+    let f = fieldOf k in
     let v = brings m f in
-    let q : legal (getD sorts (f .number) Price) v ≡ true =
-    subst (λ (q : Sort). legal q v ≡ true) (sym (p .0 .sorted)) (brought-legal (f .sort) m (field (f .at) (f .width) m) (t .0)) in
-    all-well m fs (stored (f .number) v s) (p .1) (t .1) (stored-well (f .number) v s (p .0 .low) q w)
+    let t = both (listedField m f) (all (listedField m) (fieldsFrom (k + 1) n)) h in
+    let low : k < valueCount = omega (arith, l) in
+    let q : legal (getD sorts k Price) v ≡ true =
+    subst (λ (q : Sort). legal q v ≡ true) (sym (sort-is k)) (brought-legal (f .sort) m (field (f .at) (f .width) m) (t .0)) in
+    let x : Well (stored (f .number) v s) = rw (number-is k low) (stored-well k v s low q w) in
+    all-well m (k + 1) n (stored (f .number) v s) (omega (arith, l)) (t .1) x
 
 -- THE LAWS: a message keeps nine values, and a listed one a sound strip
-pub fits : (m : List ℕ) (s : Strip) → Nine s → Nine (stripAfter m s)
+fits : (m : List ℕ) (s : Strip) → Nine s → Nine (stripAfter m s)
 unfolding stripAfter
 fits m s n = all-nine m (formIn m .fields) s n
 
-pub strip-keeps : (m : List ℕ) (s : Strip) → listedStrip m ≡ true → Well s → Well (stripAfter m s)
+strip-keeps : (m : List ℕ) (s : Strip) → listedStrip m ≡ true → Well s → Well (stripAfter m s)
 unfolding stripAfter listedStrip
 strip-keeps m s h w =
-    all-well m (formIn m .fields) s (all-numbered (msgType m))
-    (both (listedCode (securityCode m)) (all (listedField m) (formIn m .fields)) h .1) w
+    let r = shapeOf (msgType m) in
+    let l : all (listedField m) (formIn m .fields) ≡ true = both (listedCode (securityCode m)) (all (listedField m) (formIn m .fields)) h .1 in
+    rw (← same-fields (msgType m)) (all-well m (r .first) (r .count) s (few-values (msgType m)) (rw (← same-fields (msgType m)) at l) w)
 
 -- the same of a step on the table (slots/proofs/Steps), which always takes a slot
 pub step-fits : (m : List ℕ) → Preserves Nine (stepOf m .makes)

@@ -29,13 +29,13 @@ from-rest (suc n) at x l =
     rw (e, from-rest n (at + 1) x l)
 
 -- as many as there are, from the first on, are all of them
-pub from-all : (l : List ℕ) → wordsFrom (length l) 0 l ≡ l
+from-all : (l : List ℕ) → wordsFrom (length l) 0 l ≡ l
 unfolding wordsFrom
 from-all [] = refl
 from-all (x ∷ l) = ap (λ (m : List ℕ). x ∷ m) (from-rest (length l) 0 x l ∙ from-all l)
 
 -- a strip of nine values is read back from its words
-pub strip-back : (c : ℕ) (s : Strip) → Nine s → stripOf (wordsOf c s) ≡ s
+strip-back : (c : ℕ) (s : Strip) → Nine s → stripOf (wordsOf c s) ≡ s
 unfolding stripOf wordsOf wordsFrom
 strip-back c s n =
     let e : wordsFrom valueCount 0 (s .values) ≡ s .values = ap (λ (k : ℕ). wordsFrom k 0 (s .values)) (sym n) ∙ from-all (s .values) in

@@ -1,5 +1,6 @@
 -- What the code of reading a strip comes to, return by return (specs/Reading). Assumes nothing.
 use Prim.Native.Nat.{ℕ, zero, suc, _+_, _-_, _*_, _<_}
+use native.Mathlib.Nat.{zero-add}
 use native.Mathlib.Omega.{arith}
 use mathlib.Core.Path.{_≡_, refl, sym, ap, _∙_}
 use mathlib.Core.Bool.{Bool, true, false}
@@ -21,7 +22,7 @@ use Rattle.slots.specs.declared.Slot.the-variants.{Held, Free, Full}
 use Rattle.slots.proofs.Slot as slot′
 use Rattle.slots.proofs.Turning.{part-is}
 use Rattle.strips.specs.Forms.{fieldsOf, sorts}
-use Rattle.strips.specs.Words.{stripWidth, stripOf, come, value, legal, soundValue, soundFrom, soundStrip, sound}
+use Rattle.strips.specs.Words.{stripWidth, valueCount, stripOf, come, value, legal, soundValue, soundFrom, soundStrip, sound}
 use Rattle.strips.specs.Table.{strips}
 use Rattle.strips.specs.Reading.{noStrip, readAnswer, priceShown, stripShown, stripRefused, readStrip}
 use Rattle.strips.specs.Code.Shapes.{PriceAt, stripOfBlock}
@@ -55,38 +56,11 @@ sound-at i (q ∷ qs) s h (suc j) l =
     let e : i + suc j ≡ i + 1 + j = omega arith in
     rw e (sound-at (i + 1) qs s (both (soundValue q i s) (soundFrom (i + 1) qs s) h .1) j (omega (arith, l)))
 
-price-known : (k : ℕ) (s : Strip) → soundValue Price k s ≡ true → PriceAt k s
-unfolding legal
-price-known k s h = record { below = λ y. ltb-true (value k s) word32 (rw y at h) }
-
-module _ (s : Strip) (h : soundStrip s ≡ true) where
-  all-sound : soundFrom 0 sorts s ≡ true
-  unfolding soundStrip
-  all-sound = both (ltb (s .flags) 512) (soundFrom 0 sorts s) h .1
-
-  pub nominal-at : PriceAt 0 s
-  unfolding fieldsOf
-  nominal-at = price-known 0 s (sound-at 0 sorts s all-sound 0 (omega arith))
-
-  pub iep-at : PriceAt 1 s
-  unfolding fieldsOf
-  iep-at = price-known 1 s (sound-at 0 sorts s all-sound 1 (omega arith))
-
-  pub reference-at : PriceAt 3 s
-  unfolding fieldsOf
-  reference-at = price-known 3 s (sound-at 0 sorts s all-sound 3 (omega arith))
-
-  pub lower-at : PriceAt 4 s
-  unfolding fieldsOf
-  lower-at = price-known 4 s (sound-at 0 sorts s all-sound 4 (omega arith))
-
-  pub upper-at : PriceAt 5 s
-  unfolding fieldsOf
-  upper-at = price-known 5 s (sound-at 0 sorts s all-sound 5 (omega arith))
-
-  pub closing-at : PriceAt 8 s
-  unfolding fieldsOf
-  closing-at = price-known 8 s (sound-at 0 sorts s all-sound 8 (omega arith))
+pub price-at : (k : ℕ) (s : Strip) → soundStrip s ≡ true → k < valueCount → getD sorts k Price ≡ Price → PriceAt k s
+unfolding soundStrip fieldsOf legal
+price-at k s h l e =
+    let p : soundValue Price k s ≡ true = rw (zero-add k, e) at (sound-at 0 sorts s (both (ltb (s .flags) 512) (soundFrom 0 sorts s) h .1) k l) in
+    record { below = λ y. ltb-true (value k s) word32 (rw y at p) }
 
 -- all that a strip shows
 pub all-shown : (s : Strip) (nominal iep reference lower upper closing : ℤ) → nominal ≡ priceShown 0 s → iep ≡ priceShown 1 s → reference ≡ priceShown 3 s
@@ -155,12 +129,6 @@ pub ruleset showing = (
   price-below,
   price-come,
   price-none,
-  nominal-at,
-  iep-at,
-  reference-at,
-  lower-at,
-  upper-at,
-  closing-at,
   all-shown,
   block-sound,
   block-shown,

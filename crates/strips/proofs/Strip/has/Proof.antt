@@ -1,6 +1,9 @@
-use Rattle.strips.proofs.Blocks.{blocks}
+use mathlib.Core.Path.{refl}
+use borrow.Author.Needs.{needs}
+use Rattle.strips.specs.Words.{come}
 use Rattle.strips.proofs.Strip.has.Statement.{statement}
 use Rattle.strips.proofs.Strip.has.Tie as tie
 
 pub has-spec : {M : Type 1} → statement M
-has-spec = tie.close (tie.spec (λ c. search blocks) (λ c. search blocks))
+unfolding come
+has-spec = tie.close (tie.spec (λ c. search needs) (λ c. refl))
