@@ -27,7 +27,7 @@ use Rattle.books.specs.Reading.{readAnswer, readRow}
 use Rattle.books.specs.declared.RowRead.{RowRead}
 use Rattle.strips.specs.Table as strip
 use Rattle.strips.specs.Table.{strips, stripsAfter}
-use Rattle.strips.specs.Words.{emptyStrip, stripAfter}
+use Rattle.strips.specs.Words.{emptyStrip}
 use Rattle.strips.specs.Reading as reading
 use Rattle.strips.specs.Reading.{readStrip}
 use Rattle.strips.specs.declared.Strip.{Strip as StripOf}
@@ -40,9 +40,9 @@ use Rattle.feed.specs.Events.{Tables, State, Event, News, Message, timeOf, onMe
 use Rattle.feed.specs.Answers.{number, arrives, lacksNeed, isMore, isNext, lineTests, tableTests, tests, answerTo, reply, unsoundFor, noSlotFor, misfitsFor, passed}
 use Rattle.feed.specs.Steps.{tablesAfter, does, taken, act, accepted, handed, outcome}
 use Rattle.feed.specs.declared.Kind.{Kind}
-use Rattle.feed.specs.declared.Kind.the-variants.{Session, Market}
+use Rattle.feed.specs.declared.Kind.the-variants.{Market}
 use Rattle.feed.specs.declared.Datum.{Datum}
-use Rattle.feed.specs.declared.Datum.the-variants.{Book as BookMessage, Strip, Other}
+use Rattle.feed.specs.declared.Datum.the-variants.{Book as BookMessage, Strip}
 use Rattle.feed.specs.declared.Answer.{Answer}
 use Rattle.feed.specs.declared.Answer.the-variants.{Keep, Lose, Spoil, Skip, Take}
 use Rattle.feed.proofs.Laws.{numbered}

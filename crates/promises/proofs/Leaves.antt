@@ -7,9 +7,8 @@ use lib.Dec.{T}
 use Rattle.ground.specs.Choice.{oneOf}
 use Rattle.ground.proofs.Bools.{split, of-T}
 use Rattle.ground.proofs.Choices.{each-has}
-use Rattle.slots.specs.Slots.{codeOf}
 use Rattle.slots.proofs.Zeros.{length-cleared, slots-cleared, tail-cleared}
-use Rattle.slots.specs.Layout.{Layout, block, clearedIn}
+use Rattle.slots.specs.Layout.{Layout, clearedIn}
 use Rattle.slots.proofs.Steps as steps
 use Rattle.books.specs.Table.{books}
 use Rattle.strips.specs.Table.{strips, stepOf, stripsAfter}

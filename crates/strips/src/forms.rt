@@ -3,13 +3,11 @@ use super::Field;
 use super::Shape;
 use super::Sort;
 ghost use mathlib.Core.Path.{_≡_};
-ghost use mathlib.Core.Bool.{true};
-ghost use mathlib.Core.List.{[], _∷_};
 ghost use Prim.Native.Nat.{_+_, _≤_, _<_};
 ghost use lib.ListN.{length};
 ghost use Rattle.ground.specs.Choice.{oneOf, all};
 ghost use Rattle.wire.specs.Units.{msgType};
-ghost use Rattle.strips.specs.Forms.{place, isStrip, stripSized, formIn, directions, brings, listedField, listedStrip};
+ghost use Rattle.strips.specs.Forms.{place, isStrip, stripSized, directions, brings, listedField, listedStrip};
 ghost use Rattle.strips.specs.Words.{valueCount};
 ghost use Rattle.strips.specs.Code.Shapes.{shapeOf, fieldOf, fieldsFrom, Inside, Spans, Sized};
 

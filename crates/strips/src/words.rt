@@ -12,7 +12,7 @@ use super::forms::sort_of;
 ghost use mathlib.Core.Path.{_≡_};
 ghost use Prim.Native.Nat.{_<_};
 ghost use lib.ListN.{length};
-ghost use Rattle.strips.specs.Words.{stripWidth, valueCount, stripOf, wordsOf, emptyStrip, come, value, legal, soundValue, soundStrip, sound, stored as storedAt, storedAll, stripAfter};
+ghost use Rattle.strips.specs.Words.{stripWidth, valueCount, stripOf, wordsOf, emptyStrip, come, legal, soundValue, soundStrip, sound, stored as storedAt, storedAll, stripAfter};
 ghost use Rattle.strips.specs.Code.Shapes.{fieldsFrom, Spans, Sized};
 
 // A strip to which nothing has come.
