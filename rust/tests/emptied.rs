@@ -5,20 +5,11 @@ use crate::pair::Pair;
 use crate::scene::{self, SLOT, STRIP};
 use crate::tables::Tables;
 use crate::tally::Meets;
+use crate::told::{self, LIVE, OPEN, REFRESHING, TAIL, TIME};
 use exchange::dice::Dice;
 use exchange::{book_message, message, session, unit, Entry, CHANGE, DELETE};
 use mmdh::raw::{self, MmdhFeed, MmdhGiven};
 use twin::book::Book;
-
-const LIVE: MmdhFeed = MmdhFeed { phase: 4, next: 7, internal: 40, heard: 5_000, limit: 1_000, whole: 1, fresh: 1 };
-const REFRESHING: MmdhFeed = MmdhFeed { phase: 3, internal: 0, whole: 0, ..LIVE };
-const TIME: u64 = 5_001;
-
-/// Feeds that take a book message, and the internal number that it must have.
-const OPEN: [(MmdhFeed, u32); 2] = [(LIVE, 41), (REFRESHING, 0)];
-
-/// Words behind the slots.
-const TAIL: [u64; 5] = [7; 5];
 
 /// Books, and beside them strips that no book message looks at: of 700 a sound one, of 5 an unsound one, a free slot that is
 /// not zero.
@@ -110,29 +101,9 @@ fn table(slots: &[Vec<u64>]) -> Vec<u64> {
     [slots.concat(), TAIL.to_vec()].concat()
 }
 
-/// The feed after an answer to the next message.
-fn feed_after(feed: MmdhFeed, internal: u32, answer: u64) -> MmdhFeed {
-    let heard = MmdhFeed { next: feed.next + 1, heard: TIME, ..feed };
-    match answer {
-        0 if feed.phase == 4 => MmdhFeed { internal: u64::from(internal), ..heard },
-        0 | 1 => heard,
-        12..=14 => MmdhFeed { phase: 5, ..feed },
-        _ => MmdhFeed { phase: 5, whole: 0, ..feed },
-    }
-}
-
-/// A message to one feed, as a stream and already cut: the answer, the bytes used, the feed and every word.
+/// A message to one feed: the answer, the feed and every word of the books.
 fn sent(pair: &mut Pair, feed: MmdhFeed, internal: u32, message: &[u8], before: &[u64], answer: u64, after: &[u64]) {
-    let (before, after) = (beside(before), beside(after));
-    let used = if answer <= 2 { (20 + message.len()) as u64 } else { 0 };
-    let wanted = MmdhGiven { answer, used, feed: feed_after(feed, internal, answer) };
-    let input = || format!("{:?}, internal {}, {:02x?}", feed, internal, message);
-    let given = pair.arrive(feed, &before, &unit(7, internal, message), TIME);
-    let words = pair.after().clone();
-    pair.tally.same(&(given, &words), &(wanted, &after), input);
-    let given = pair.arrive_cut(feed, &before, 7, internal, message, TIME);
-    let words = pair.after().clone();
-    pair.tally.same(&(given, &words), &(MmdhGiven { used: 0, ..wanted }, &after), input);
+    told::sent(pair, feed, internal, message, &beside(before), answer, &beside(after));
 }
 
 /// NoEntries 0 for a code, in Live and in Refreshing.

@@ -17,6 +17,7 @@ mod singles;
 mod strips;
 mod tables;
 mod tally;
+mod told;
 
 use exchange::dice::Dice;
 use pair::Pair;

@@ -5,19 +5,10 @@ use crate::pair::Pair;
 use crate::scene::{self, SLOT, STRIP, STRIPS};
 use crate::tables::Tables;
 use crate::tally::{Finds, StripMeets};
+use crate::told::{self, LIVE, OPEN, REFRESHING, TAIL, TIME};
 use exchange::dice::Dice;
 use exchange::{about, book_message, closing, equilibrium, imbalance, nominal, reference, session, unit, Entry};
-use mmdh::raw::{MmdhFeed, MmdhGiven, MmdhStrip};
-
-const LIVE: MmdhFeed = MmdhFeed { phase: 4, next: 7, internal: 40, heard: 5_000, limit: 1_000, whole: 1, fresh: 1 };
-const REFRESHING: MmdhFeed = MmdhFeed { phase: 3, internal: 0, whole: 0, ..LIVE };
-const TIME: u64 = 5_001;
-
-/// Feeds that take a strip message, and the internal number that it must have.
-const OPEN: [(MmdhFeed, u32); 2] = [(LIVE, 41), (REFRESHING, 0)];
-
-/// Words behind the slots.
-const TAIL: [u64; 5] = [7; 5];
+use mmdh::raw::{MmdhFeed, MmdhStrip};
 
 /// What a field is.
 #[derive(Clone, Copy)]
@@ -202,30 +193,10 @@ fn beside(strips: &[u64], room: bool) -> Tables {
     Tables { books: if room { books } else { Vec::new() }, strips: strips.to_vec() }
 }
 
-/// The feed after an answer to the next message.
-fn feed_after(feed: MmdhFeed, internal: u32, answer: u64) -> MmdhFeed {
-    let heard = MmdhFeed { next: feed.next + 1, heard: TIME, ..feed };
-    match answer {
-        0 if feed.phase == 4 => MmdhFeed { internal: u64::from(internal), ..heard },
-        0 | 1 => heard,
-        12..=14 => MmdhFeed { phase: 5, ..feed },
-        _ => MmdhFeed { phase: 5, whole: 0, ..feed },
-    }
-}
-
-/// A message to one feed, as a stream and already cut: the answer, the bytes used, the feed and every word.
+/// A message to one feed, with and without books beside the strips: the answer, the feed and every word of the strips.
 fn sent(pair: &mut Pair, feed: MmdhFeed, internal: u32, message: &[u8], before: &[u64], answer: u64, after: &[u64]) {
-    let used = if answer <= 2 { (20 + message.len()) as u64 } else { 0 };
-    let wanted = MmdhGiven { answer, used, feed: feed_after(feed, internal, answer) };
-    let input = || format!("{:?}, internal {}, {:02x?}", feed, internal, message);
     for room in [true, false] {
-        let (before, after) = (beside(before, room), beside(after, room));
-        let given = pair.arrive(feed, &before, &unit(7, internal, message), TIME);
-        let words = pair.after().clone();
-        pair.tally.same(&(given, &words), &(wanted, &after), input);
-        let given = pair.arrive_cut(feed, &before, 7, internal, message, TIME);
-        let words = pair.after().clone();
-        pair.tally.same(&(given, &words), &(MmdhGiven { used: 0, ..wanted }, &after), input);
+        told::sent(pair, feed, internal, message, &beside(before, room), answer, &beside(after, room));
     }
 }
 
