@@ -103,6 +103,14 @@ typedef struct {
     MmdhFeed feed;
 } MmdhGiven;
 
+/* What a frame hands back: the last answer, how many units were accepted, the bytes that they used, and the feed after them. */
+typedef struct {
+    uint64_t answer;
+    uint64_t accepted;
+    uint64_t used;
+    MmdhFeed feed;
+} MmdhFrame;
+
 /* A row: price in thousandths, as sent. With an answer other than 0 the rest is 0. */
 typedef struct {
     uint64_t answer;
@@ -154,6 +162,13 @@ MmdhGiven mmdh_connect(MmdhFeed feed, uint64_t resuming, uint64_t time);
 /* Bytes that have arrived: at most one unit is taken from their front, and used says how long it was. */
 MmdhGiven mmdh_arrive(MmdhFeed feed, uint64_t *books, size_t books_len, uint64_t *strips, size_t strips_len,
                       const uint8_t *bytes, size_t bytes_len, uint64_t time);
+
+/* A whole frame's units at once, at most as many as are allowed: what mmdh_arrive does at that time with the unit at the front, then
+   with the next one, until the allowed number is accepted (0, 1 or 2, heartbeats too), or bytes are missing (3), or a unit is
+   refused. The answer is the last unit's; what is not accepted uses no bytes and is not counted, and what was accepted before it
+   stays. Any number may be allowed; with 0 the answer is 0, nothing is looked at, and the feed comes back as it was handed in. */
+MmdhFrame mmdh_arrive_frame(MmdhFeed feed, uint64_t *books, size_t books_len, uint64_t *strips, size_t strips_len,
+                            const uint8_t *bytes, size_t bytes_len, uint64_t allowed, uint64_t time);
 
 /* The two numbers of a header, and its message already cut. No bytes are used. */
 MmdhGiven mmdh_arrive_cut(MmdhFeed feed, uint64_t *books, size_t books_len, uint64_t *strips, size_t strips_len,
