@@ -3,3 +3,4 @@ pub mod Laws
 pub mod Rows
 pub mod Following
 pub mod Whys
+pub mod Framing

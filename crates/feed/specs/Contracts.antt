@@ -5,9 +5,11 @@ use mathlib.Core.List.{List}
 use Rattle.feed.specs.Feeds.{newGiven, badgeOf}
 use Rattle.feed.specs.Events.{Tables, Connect, Arrive, Cut}
 use Rattle.feed.specs.Steps.{stateOf, outOf, outcome}
+use Rattle.feed.specs.Frames.{framedOf, framed}
 use Rattle.feed.specs.Reasons.{why}
 use Rattle.feed.specs.declared.Feed.{Feed}
 use Rattle.feed.specs.declared.Given.{Given}
+use Rattle.feed.specs.declared.Frame.{Frame}
 use Rattle.feed.specs.declared.Link.{Link}
 use Rattle.feed.specs.declared.Badge.{Badge}
 
@@ -25,6 +27,10 @@ ArriveSays f x bytes time r after = outOf r after ≡ outcome (stateOf f x) (Arr
 
 abbrev pub CutSays : Feed → Tables → ℕ → ℕ → List ℕ → ℕ → Given → Tables → Type 0
 CutSays f x seq internal m time r after = outOf r after ≡ outcome (stateOf f x) (Cut seq internal m time)
+
+-- Feed::arrive_frame: last answer, units accepted, bytes used, feed, and every word of every table after it
+abbrev pub FrameSays : Feed → Tables → List ℕ → ℕ → ℕ → Frame → Tables → Type 0
+FrameSays f x bytes allowed time r after = framedOf r after ≡ framed (stateOf f x) bytes allowed time
 
 -- Feed::badge
 abbrev pub BadgeSays : Feed → ℕ → Badge → Type 0

@@ -3,6 +3,7 @@ pub mod Feeds
 pub mod Events
 pub mod Answers
 pub mod Steps
+pub mod Frames
 pub mod Program
 pub mod Code
 pub mod Reasons

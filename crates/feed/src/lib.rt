@@ -2,6 +2,7 @@
 mod arrivals;
 mod badges;
 mod changes;
+mod frames;
 mod links;
 mod messages;
 mod phases;
@@ -50,6 +51,14 @@ pub enum Answer {
 // What a call hands back: document 01's answer number, the bytes used, and the feed after it.
 pub struct Given {
     pub answer: u64,
+    pub used: usize,
+    pub feed: Feed,
+}
+
+// What a frame's units come to: the last answer, how many were accepted, the bytes that they used, and the feed after them.
+pub struct Frame {
+    pub answer: u64,
+    pub accepted: u64,
     pub used: usize,
     pub feed: Feed,
 }
