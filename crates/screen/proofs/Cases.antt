@@ -2,18 +2,21 @@
 use Prim.Native.Nat.{ℕ}
 use mathlib.Core.Path.{_≡_, ap}
 use mathlib.Core.Bool.{Bool, true, false}
+use mathlib.Core.List.{List}
 use borrow.Author.Needs.{needs}
 use borrow.Author.Tests.{eq-eqb, ne-eqb}
 use Rattle.feed.specs.Feeds.{phaseNo, phaseOf, newGiven}
 use Rattle.feed.specs.Events.{Tables, Event, Connect}
 use Rattle.feed.specs.Steps.{stateOf, outOf, outcome}
+use Rattle.feed.specs.Frames.{framedOf, framed}
 use Rattle.feed.specs.declared.Phase.{Phase}
 use Rattle.feed.specs.declared.Link.{Link}
 use Rattle.feed.specs.declared.Link.the-variants.{Fresh, Resuming}
 use Rattle.feed.specs.declared.Feed.{Feed}
 use Rattle.feed.specs.declared.Given.{Given}
-use Rattle.screen.specs.Plain.{yes, bit, linkOf, feedOf, plainFeed, plainGiven, plainOut, plainOutcome, plainRow, plainSide, plainStrip}
-use Rattle.screen.specs.Calls.{handsBack, Connects}
+use Rattle.feed.specs.declared.Frame.{Frame}
+use Rattle.screen.specs.Plain.{yes, bit, linkOf, feedOf, plainFeed, plainGiven, plainOut, plainOutcome, plainFrame, plainFramedOf, plainFramed, plainRow, plainSide, plainStrip}
+use Rattle.screen.specs.Calls.{handsBack, framesBack, Connects}
 use Rattle.books.specs.declared.RowRead.{RowRead}
 use Rattle.books.specs.declared.SideRead.{SideRead}
 use Rattle.strips.specs.declared.StripRead.{StripRead}
@@ -22,6 +25,7 @@ use Rattle.screen.specs.declared.MmdhSide.{MmdhSide}
 use Rattle.screen.specs.declared.MmdhStrip.{MmdhStrip}
 use Rattle.screen.specs.declared.MmdhFeed.{MmdhFeed}
 use Rattle.screen.specs.declared.MmdhGiven.{MmdhGiven}
+use Rattle.screen.specs.declared.MmdhFrame.{MmdhFrame}
 
 pub not-yes : (n : ℕ) → n ≡ 0 → false ≡ yes n
 unfolding yes
@@ -70,6 +74,20 @@ pub arrive-plain : (c : MmdhFeed) (f : Feed) (x y : Tables) (e : Event) (g : Giv
     → outOf g y ≡ outcome (stateOf f x) e → r ≡ plainGiven g → plainOut r y ≡ plainOutcome (outcome (stateOf (feedOf c) x) e)
 arrive-plain c f x y e g r a q h = rw (h, ← a) (ap plainOutcome q)
 
+pub as-frame : (x : Frame) (f : MmdhFeed) → f ≡ plainFeed (x .feed)
+    → _≡_ {A = MmdhFrame} (record { answer = x .answer; accepted = x .accepted; used = x .used; feed = f }) (plainFrame x)
+as-frame x f e = rw e
+
+pub frame-none : (c : MmdhFeed) (x : Tables) (bytes : List ℕ) (allowed time : ℕ) → allowed ≡ 0
+    → plainFramedOf (record { answer = 0; accepted = 0; used = 0; feed = c }) x ≡ framesBack c x bytes allowed time
+unfolding framesBack
+frame-none c x bytes allowed time e = rw (eq-eqb allowed 0 e)
+
+pub frame-plain : (c : MmdhFeed) (f : Feed) (x y : Tables) (bytes : List ℕ) (allowed time : ℕ) (g : Frame) (r : MmdhFrame) → (allowed ≡ 0 → ⊥) → f ≡ feedOf c
+    → framedOf g y ≡ framed (stateOf f x) bytes allowed time → r ≡ plainFrame g → plainFramedOf r y ≡ framesBack c x bytes allowed time
+unfolding framesBack
+frame-plain c f x y bytes allowed time g r z a q h = rw (ne-eqb allowed 0 z, h, ← a) (ap plainFramed q)
+
 pub row-plain : (x r : RowRead) → r ≡ x → _≡_ {A = MmdhRow} (record { answer = r .answer; price = r .price; quantity = r .quantity; orders = r .orders }) (plainRow x)
 row-plain x r e = ap plainRow e
 
@@ -94,4 +112,4 @@ pub strip-plain : (x r : StripRead) → r ≡ x
     (plainStrip x)
 strip-plain x r e = ap plainStrip e
 
-pub ruleset cases = (needs, not-yes, is-yes, bit-one, bit-none, link-fresh, link-resuming, as-feed, as-plain, as-given, new-plain, connect-plain, arrive-plain, row-plain, side-plain, strip-plain)
+pub ruleset cases = (needs, not-yes, is-yes, bit-one, bit-none, link-fresh, link-resuming, as-feed, as-plain, as-given, new-plain, connect-plain, arrive-plain, as-frame, frame-none, frame-plain, row-plain, side-plain, strip-plain)

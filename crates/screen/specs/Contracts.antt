@@ -7,10 +7,11 @@ use Rattle.strips.specs.Reading.{readStrip}
 use Rattle.feed.specs.Feeds.{newGiven, plainBadge}
 use Rattle.feed.specs.Events.{Tables}
 use Rattle.feed.specs.Reasons.{plainWhy}
-use Rattle.screen.specs.Plain.{plainGiven, plainOut, plainRow, plainSide, plainStrip, version}
-use Rattle.screen.specs.Calls.{Connects, Arrives, ArrivesCut, handsBack}
+use Rattle.screen.specs.Plain.{plainGiven, plainOut, plainFramedOf, plainRow, plainSide, plainStrip, version}
+use Rattle.screen.specs.Calls.{Connects, Arrives, ArrivesCut, handsBack, framesBack}
 use Rattle.screen.specs.declared.MmdhFeed.{MmdhFeed}
 use Rattle.screen.specs.declared.MmdhGiven.{MmdhGiven}
+use Rattle.screen.specs.declared.MmdhFrame.{MmdhFrame}
 use Rattle.screen.specs.declared.MmdhRow.{MmdhRow}
 use Rattle.screen.specs.declared.MmdhSide.{MmdhSide}
 use Rattle.screen.specs.declared.MmdhStrip.{MmdhStrip}
@@ -29,6 +30,10 @@ ArriveSays feed x bytes time r after = plainOut r after ≡ handsBack feed x (Ar
 
 abbrev pub CutSays : MmdhFeed → Tables → ℕ → ℕ → List ℕ → ℕ → MmdhGiven → Tables → Type 0
 CutSays feed x seq internal m time r after = plainOut r after ≡ handsBack feed x (ArrivesCut seq internal m time)
+
+-- mmdh_arrive_frame
+abbrev pub FrameSays : MmdhFeed → Tables → List ℕ → ℕ → ℕ → MmdhFrame → Tables → Type 0
+FrameSays feed x bytes allowed time r after = plainFramedOf r after ≡ framesBack feed x bytes allowed time
 
 -- mmdh_badge
 abbrev pub BadgeSays : ℕ → ℕ → ℕ → ℕ → ℕ → Type 0

@@ -8,12 +8,15 @@ use Rattle.strips.specs.declared.StripRead.{StripRead}
 use Rattle.feed.specs.Feeds.{phaseNo, phaseOf}
 use Rattle.feed.specs.Events.{Tables}
 use Rattle.feed.specs.Steps.{Outcome}
+use Rattle.feed.specs.Frames.{Framed}
 use Rattle.feed.specs.declared.Link.{Link}
 use Rattle.feed.specs.declared.Link.the-variants.{Fresh, Resuming}
 use Rattle.feed.specs.declared.Feed.{Feed}
 use Rattle.feed.specs.declared.Given.{Given}
+use Rattle.feed.specs.declared.Frame.{Frame}
 use Rattle.screen.specs.declared.MmdhFeed.{MmdhFeed}
 use Rattle.screen.specs.declared.MmdhGiven.{MmdhGiven}
+use Rattle.screen.specs.declared.MmdhFrame.{MmdhFrame}
 use Rattle.screen.specs.declared.MmdhRow.{MmdhRow}
 use Rattle.screen.specs.declared.MmdhSide.{MmdhSide}
 use Rattle.screen.specs.declared.MmdhStrip.{MmdhStrip}
@@ -65,6 +68,20 @@ plainOut g x = record { given = g; tables = x }
 
 abbrev pub plainOutcome : Outcome → PlainOut
 plainOutcome o = record { given = plainGiven (o .given); tables = o .tables }
+
+-- and a frame
+abbrev pub plainFrame : Frame → MmdhFrame
+plainFrame x = record { answer = x .answer; accepted = x .accepted; used = x .used; feed = plainFeed (x .feed) }
+
+pub record PlainFramed : Type 0 where
+  pub frame : MmdhFrame
+  pub tables : Tables
+
+abbrev pub plainFramedOf : MmdhFrame → Tables → PlainFramed
+plainFramedOf r x = record { frame = r; tables = x }
+
+abbrev pub plainFramed : Framed → PlainFramed
+plainFramed o = plainFramedOf (plainFrame (o .frame)) (o .tables)
 
 abbrev pub plainRow : RowRead → MmdhRow
 plainRow r = record { answer = r .answer; price = r .price; quantity = r .quantity; orders = r .orders }

@@ -1,11 +1,12 @@
 // The library by plain C calls, for the screens: numbers, structs of numbers by value, and slices as pointer and length.
 ghost use mathlib.Core.Path.{_≡_};
-ghost use Rattle.screen.specs.Contracts.{NewSays, ConnectSays, ArriveSays, CutSays, BadgeSays, WhySays, RowSays, SideSays, StripSays, VersionSays};
+ghost use Rattle.screen.specs.Contracts.{NewSays, ConnectSays, ArriveSays, FrameSays, CutSays, BadgeSays, WhySays, RowSays, SideSays, StripSays, VersionSays};
 ghost use Rattle.feed.specs.Steps.{lent};
-ghost use Rattle.screen.specs.Plain.{yes, bit, linkOf, feedOf, plainFeed, plainGiven};
+ghost use Rattle.screen.specs.Plain.{yes, bit, linkOf, feedOf, plainFeed, plainGiven, plainFrame};
 use books::Level;
 use books::RowRead;
 use feed::Feed;
+use feed::Frame;
 use feed::Given;
 use feed::Link;
 use ladder::DEPTH;
@@ -26,6 +27,15 @@ pub struct MmdhFeed {
 #[repr(C)]
 pub struct MmdhGiven {
     pub answer: u64,
+    pub used: u64,
+    pub feed: MmdhFeed,
+}
+
+// What a frame hands back: the last answer, how many units were accepted, the bytes that they used, and the feed after them.
+#[repr(C)]
+pub struct MmdhFrame {
+    pub answer: u64,
+    pub accepted: u64,
     pub used: u64,
     pub feed: MmdhFeed,
 }
@@ -146,6 +156,20 @@ fn plain_given(g: Given) -> MmdhGiven
     }
 }
 
+// The numbers of what a frame hands back.
+fn plain_frame(x: Frame) -> MmdhFrame
+    ensures { λ r. ⌜ r ≡ plainFrame x ⌝ }
+{
+    let f = x.feed;
+    let feed = plain_feed(f);
+    MmdhFrame {
+        answer: x.answer,
+        accepted: x.accepted,
+        used: x.used as u64,
+        feed,
+    }
+}
+
 // A new feed with a silence limit in milliseconds: 19 outside 1 to 600,000.
 #[no_mangle]
 pub extern "C" fn mmdh_new(limit: u64) -> MmdhGiven
@@ -174,6 +198,29 @@ pub extern "C" fn mmdh_arrive(
     ensures { λ r. ⌜ ArriveSays feed (lent (now (books .entry)) (now (strips .entry))) (now (bytes .entry)) time r (lent (now (books .exit)) (now (strips .exit))) ⌝ }
 {
     plain_given(feed_of(feed).arrive(books, strips, bytes, time))
+}
+
+// A whole frame's units at once, at most `allowed`. With 0 the feed comes back as it was handed in.
+#[no_mangle]
+pub extern "C" fn mmdh_arrive_frame(
+    feed: MmdhFeed,
+    books: &mut [u64],
+    strips: &mut [u64],
+    bytes: &[u8],
+    allowed: u64,
+    time: u64,
+) -> MmdhFrame
+    ensures { λ r. ⌜ FrameSays feed (lent (now (books .entry)) (now (strips .entry))) (now (bytes .entry)) allowed time r (lent (now (books .exit)) (now (strips .exit))) ⌝ }
+{
+    if allowed == 0 {
+        return MmdhFrame {
+            answer: 0,
+            accepted: 0,
+            used: 0,
+            feed,
+        };
+    }
+    plain_frame(feed_of(feed).arrive_frame(books, strips, bytes, allowed, time))
 }
 
 // The two numbers and a message already cut.
