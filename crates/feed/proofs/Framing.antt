@@ -1,15 +1,17 @@
 -- A frame goes as single arrivals go. Assumes nothing.
 use Prim.Native.Nat.{ℕ, zero, suc, _+_, _-_, _≤_, _<_, _^_}
 use mathlib.Core.Path.{_≡_, refl, sym, ap, _∙_}
-use mathlib.Core.Bool.{Bool, true, false, cond}
+use mathlib.Core.Bool.{Bool, true, false, cond, true≢false}
 use mathlib.Core.List.{List}
 use native.Mathlib.Omega.{arith}
+use native.Mathlib.Nat.{add-assoc}
 use lib.ListN.{length, take, drop, length-drop}
-use lib.Seq.{take-all}
+use lib.Seq.{take-all, drop-drop}
 use mir.Syntax.{w64}
 use mir.Val.{Fits}
 use borrow.Author.Needs.{needs}
 use borrow.Author.Tests.{le-leb, lt-leb}
+use Rattle.ground.proofs.Bools.{split}
 use Rattle.feed.specs.Events.{Tables, Arrive}
 use Rattle.feed.specs.Steps.{Outcome, accepted, lent, stateOf, outOf, outcome}
 use Rattle.feed.specs.Frames.{Framed, framedOf, opened, onward, through}
@@ -121,5 +123,109 @@ module _ (all : ℕ) (x₀ : Frame) (t₀ : Tables) (s : List ℕ) (n : ℕ) (x 
     go-stop h =
         let q : accepted (onward s n (framedOf x t) .frame .answer) ≡ false = rw (← answered-as) (lt-leb (y .answer) 2 h) in
         e ∙ sym (through-ends s n (framedOf x t) (all - x .accepted - 1) q) ∙ left
+
+-- what came last was accepted, or not
+abbrev pub Well : Framed → Type 0
+Well x = accepted (x .frame .answer) ≡ true
+
+abbrev pub Ill : Framed → Type 0
+Ill x = accepted (x .frame .answer) ≡ false
+
+module _ (s : List ℕ) (n : ℕ) where
+  -- to show something of where a frame of k units from x ends: where none is left, a unit before its end, and at a unit that ends it
+  pub walk : (P : ℕ → Framed → Framed → Type 0) → ((x : Framed) → P 0 x x)
+      → ((k : ℕ) (x y : Framed) → Well (onward s n x) → P k (onward s n x) y → P (suc k) x y)
+      → ((k : ℕ) (x : Framed) → Ill (onward s n x) → P (suc k) x (onward s n x))
+      → (k : ℕ) (x : Framed) → P k x (through k s n x)
+  unfolding through
+  walk P none on ends zero x = none x
+  walk P none on ends (suc k) x =
+      split (P (suc k) x) (accepted (onward s n x .frame .answer)) _ _
+      (λ e. on k x (through k s n (onward s n x)) e (walk P none on ends k (onward s n x)))
+      (λ e. ends k x e)
+
+  pub through-fits : (k : ℕ) (x : Framed) → x .frame .used ≤ length s → through k s n x .frame .used ≤ length s
+  through-fits =
+      walk (λ k x y. x .frame .used ≤ length s → y .frame .used ≤ length s)
+      (λ x h. h)
+      (λ k x y e on h. on (onward-fits s n x h))
+      (λ k x e h. onward-fits s n x h)
+
+  -- all that are allowed are counted where the last was accepted, and fewer where it was not
+  pub counted-all : (k : ℕ) (x : Framed) → Well x → Well (through k s n x) → through k s n x .frame .accepted ≡ x .frame .accepted + k
+  counted-all =
+      walk (λ k x y. Well x → Well y → y .frame .accepted ≡ x .frame .accepted + k)
+      (λ x w h. omega arith)
+      (λ k x y e on w h. omega (arith, on e h, onward-counts s n x e))
+      (λ k x e w h. absurd (true≢false (sym h ∙ e)))
+
+  pub counted-fewer : (k : ℕ) (x : Framed) → Well x → Ill (through k s n x) → through k s n x .frame .accepted < x .frame .accepted + k
+  counted-fewer =
+      walk (λ k x y. Well x → Ill y → y .frame .accepted < x .frame .accepted + k)
+      (λ x w h. absurd (true≢false (sym w ∙ h)))
+      (λ k x y e on w h. omega (arith, on e h, onward-counts s n x e))
+      (λ k x e w h. omega (arith, onward-ends s n x e))
+
+  -- b units more are allowed: the frame goes on from where a of them left it, or has ended there
+  pub goes-on : (b a : ℕ) (x : Framed) → Well x → Well (through a s n x) → through (a + b) s n x ≡ through b s n (through a s n x)
+  goes-on b =
+      walk (λ a x y. Well x → Well y → through (a + b) s n x ≡ through b s n y)
+      (λ x w h. let z : 0 + b ≡ b = omega arith in rw z)
+      (λ a x y e on w h. let z : suc a + b ≡ suc (a + b) = omega arith in rw z (through-on s n x (a + b) e ∙ on e h))
+      (λ a x e w h. absurd (true≢false (sym h ∙ e)))
+
+  pub has-ended : (b a : ℕ) (x : Framed) → Well x → Ill (through a s n x) → through (a + b) s n x ≡ through a s n x
+  has-ended b =
+      walk (λ a x y. Well x → Ill y → through (a + b) s n x ≡ y)
+      (λ x w h. absurd (true≢false (sym w ∙ h)))
+      (λ a x y e on w h. let z : suc a + b ≡ suc (a + b) = omega arith in rw z (through-on s n x (a + b) e ∙ on e h))
+      (λ a x e w h. let z : suc a + b ≡ suc (a + b) = omega arith in rw z (through-ends s n x (a + b) e))
+
+  -- a frame that was not accepted to its end: so many units were, and then came the one that was not
+  pub record Ended (x y : Framed) : Type 0 where
+    pub before : ℕ
+    pub well : Well (through before s n x)
+    pub last : y ≡ onward s n (through before s n x)
+
+  pub ended : (k : ℕ) (x : Framed) → Well x → Ill (through k s n x) → Ended x (through k s n x)
+  ended =
+      walk (λ k x y. Well x → Ill y → Ended x y)
+      (λ x w h. absurd (true≢false (sym w ∙ h)))
+      (λ k x y e on w h.
+      let r = on e h in
+      let z = through-on s n x (r .before) e in
+      record { before = suc (r .before); well = rw z (r .well); last = rw z (r .last) })
+      (λ k x e w h. record { before = 0; well = unfold through in w; last = unfold through in refl })
+
+-- p units and q bytes before a frame are p and q more of them, and nothing else
+abbrev pub further : ℕ → ℕ → Framed → Framed
+further p q y =
+    framedOf (record { answer = y .frame .answer; accepted = p + y .frame .accepted; used = q + y .frame .used; feed = y .frame .feed }) (y .tables)
+
+module _ (p q : ℕ) (s : List ℕ) (n : ℕ) where
+  onward-further : (y : Framed) → onward s n (further p q y) ≡ further p q (onward (drop q s) n y)
+  unfolding onward
+  onward-further y =
+      let o : Outcome = outcome (stateOf (y .frame .feed) (y .tables)) (Arrive (drop (y .frame .used) (drop q s)) n) in
+      rw (← drop-drop (y .frame .used) q s)
+      (λ i. framedOf
+      (record {
+        answer = o .given .answer;
+        accepted = more (accepted (o .given .answer)) (y .frame .accepted) i;
+        used = add-assoc q (y .frame .used) (o .given .used) i;
+        feed = o .given .feed;
+      })
+      (o .tables))
+    where
+      more : (b : Bool) (a : ℕ) → cond b (p + a + 1) (p + a) ≡ p + cond b (a + 1) a
+      more true a = add-assoc p a 1
+      more false a = refl
+
+  pub through-further : (k : ℕ) (y : Framed) → through k s n (further p q y) ≡ further p q (through k (drop q s) n y)
+  through-further =
+      walk (drop q s) n (λ k y z. through k s n (further p q y) ≡ further p q z)
+      (λ y. unfold through in refl)
+      (λ k y z e on. through-on s n (further p q y) k (rw (onward-further y) e) ∙ ap (through k s n) (onward-further y) ∙ on)
+      (λ k y e. through-ends s n (further p q y) k (rw (onward-further y) e) ∙ onward-further y)
 
 pub ruleset frames = (needs, stands-counted, stands-ended, used-adds, go-start, go-asks, go-done, go-less, go-more, go-stop)

@@ -16,7 +16,7 @@ pub no-second : (a b : Bool) → b ≡ false → a && b ≡ false
 no-second true b e = e
 no-second false b e = refl
 
--- a test that passes as a proposition, and back; and both parts of one
+-- a test that passes as a proposition, and back; both parts of one, and back
 pub of-T : (b : Bool) → T b → b ≡ true
 of-T true h = refl
 of-T false h = absurd h
@@ -28,6 +28,10 @@ is-T false e = absurd (false≢true e)
 pub two : (a b : Bool) → T (a && b) → T a × T b
 two true b h = (tt, h)
 two false b h = absurd h
+
+pub pair : (a b : Bool) → T a → T b → T (a && b)
+pair true b p q = q
+pair false b p q = p
 
 -- a choice between two that are the same; a choice that is its own test
 pub cond-same : {A : Type 0} (b : Bool) (x : A) → cond b x x ≡ x

@@ -14,6 +14,7 @@ pub mod GoodMorning
 pub mod Leaves
 pub mod Decisions
 pub mod Pieces
+pub mod Frames
 pub mod Contracts
 pub mod Why
 pub mod Ends

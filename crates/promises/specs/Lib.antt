@@ -22,5 +22,6 @@ pub mod Mornings
 pub mod Leaves
 pub mod Decisions
 pub mod Pieces
+pub mod Frames
 pub mod Why
 pub mod Sides
