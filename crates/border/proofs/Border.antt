@@ -35,13 +35,13 @@ comesBack f = λ i. record {
 }
 
 -- the numbers and words of a state
-abbrev plain : State → Held
+abbrev pub plain : State → Held
 plain s = record { feed = plainFeed (s .feed); tables = s .tables }
 
-same-out : (s : State) (c : Call) → handsBack (plain s .feed) (plain s .tables) c ≡ plainOutcome (outcome s (eventOf c))
+pub same-out : (s : State) (c : Call) → handsBack (plain s .feed) (plain s .tables) c ≡ plainOutcome (outcome s (eventOf c))
 same-out s c = ap (λ (f : Feed). plainOutcome (outcome (stateOf f (s .tables)) (eventOf c))) (comesBack (s .feed))
 
-step-is : (s : State) (c : Call) → plainAfter (plain s) c ≡ plain (after s (eventOf c))
+pub step-is : (s : State) (c : Call) → plainAfter (plain s) c ≡ plain (after s (eventOf c))
 unfolding plainAfter after
 step-is s c = λ i. record { feed = same-out s c i .given .feed; tables = same-out s c i .tables }
 

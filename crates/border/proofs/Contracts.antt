@@ -4,10 +4,11 @@ use mathlib.Core.Path.{_≡_, sym, ap, _∙_}
 use mathlib.Core.List.{[]}
 use Rattle.feed.specs.Steps.{lent}
 use denote.Ref.{now}
-use Rattle.screen.specs.Plain.{PlainOut}
+use Rattle.screen.specs.Plain.{PlainOut, PlainFramed}
 use Rattle.screen.proofs.mmdh_new.Reads as new
 use Rattle.screen.proofs.mmdh_connect.Reads as connect
 use Rattle.screen.proofs.mmdh_arrive.Reads as arrive
+use Rattle.screen.proofs.mmdh_arrive_frame.Reads as arrive-frame
 use Rattle.screen.proofs.mmdh_arrive_cut.Reads as arrive-cut
 use Rattle.screen.proofs.mmdh_badge.Reads as badge
 use Rattle.screen.proofs.mmdh_why.Reads as why
@@ -25,6 +26,9 @@ connect-asks κs a = tt
 
 pub arrive-asks : (κs : _) (a : _) → arrive.Asked κs a
 arrive-asks κs a = tt
+
+pub arrive-frame-asks : (κs : _) (a : _) → arrive-frame.Asked κs a
+arrive-frame-asks κs a = tt
 
 pub arrive-cut-asks : (κs : _) (a : _) → arrive-cut.Asked κs a
 arrive-cut-asks κs a = tt
@@ -57,6 +61,11 @@ connect-one κs a r r′ x x′ p q = ap (λ (o : PlainOut). o .given) (p (lent 
 pub arrive-one : (κs : _) (a : _) (r r′ : _) (x x′ : _) → arrive.Learnt κs a r x → arrive.Learnt κs a r′ x′
     → (r ≡ r′) × (now (x .1 .0) ≡ now (x′ .1 .0)) × (now (x .1 .1 .0) ≡ now (x′ .1 .1 .0))
 arrive-one κs a r r′ x x′ p q = (ap (λ (o : PlainOut). o .given) (p ∙ sym q), ap (λ (o : PlainOut). o .tables .books) (p ∙ sym q), ap (λ (o : PlainOut). o .tables .strips) (p ∙ sym q))
+
+pub arrive-frame-one : (κs : _) (a : _) (r r′ : _) (x x′ : _) → arrive-frame.Learnt κs a r x → arrive-frame.Learnt κs a r′ x′
+    → (r ≡ r′) × (now (x .1 .0) ≡ now (x′ .1 .0)) × (now (x .1 .1 .0) ≡ now (x′ .1 .1 .0))
+arrive-frame-one κs a r r′ x x′ p q =
+    (ap (λ (o : PlainFramed). o .frame) (p ∙ sym q), ap (λ (o : PlainFramed). o .tables .books) (p ∙ sym q), ap (λ (o : PlainFramed). o .tables .strips) (p ∙ sym q))
 
 pub arrive-cut-one : (κs : _) (a : _) (r r′ : _) (x x′ : _) → arrive-cut.Learnt κs a r x → arrive-cut.Learnt κs a r′ x′
     → (r ≡ r′) × (now (x .1 .0) ≡ now (x′ .1 .0)) × (now (x .1 .1 .0) ≡ now (x′ .1 .1 .0))

@@ -4,9 +4,11 @@ use mathlib.Core.Path.{_≡_, sym, ap, _∙_}
 use mathlib.Core.List.{[]}
 use denote.Ref.{now}
 use Rattle.feed.specs.Steps.{Outcome, lent}
+use Rattle.feed.specs.Frames.{Framed}
 use Rattle.feed.proofs.Feed.new.Reads as new
 use Rattle.feed.proofs.Feed.connect.Reads as connect
 use Rattle.feed.proofs.Feed.arrive.Reads as arrive
+use Rattle.feed.proofs.Feed.arrive_frame.Reads as arrive-frame
 use Rattle.feed.proofs.Feed.arrive_cut.Reads as arrive-cut
 use Rattle.feed.proofs.Feed.badge.Reads as badge
 use Rattle.feed.proofs.Feed.why.Reads as why
@@ -23,6 +25,9 @@ connect-asks κs a = tt
 
 pub arrive-asks : (κs : _) (a : _) → arrive.Asked κs a
 arrive-asks κs a = tt
+
+pub arrive-frame-asks : (κs : _) (a : _) → arrive-frame.Asked κs a
+arrive-frame-asks κs a = tt
 
 pub arrive-cut-asks : (κs : _) (a : _) → arrive-cut.Asked κs a
 arrive-cut-asks κs a = tt
@@ -52,6 +57,11 @@ connect-one κs a r r′ x x′ p q = ap (λ (o : Outcome). o .given) (p (lent [
 pub arrive-one : (κs : _) (a : _) (r r′ : _) (x x′ : _) → arrive.Learnt κs a r x → arrive.Learnt κs a r′ x′
     → (r ≡ r′) × (now (x .1 .0) ≡ now (x′ .1 .0)) × (now (x .1 .1 .0) ≡ now (x′ .1 .1 .0))
 arrive-one κs a r r′ x x′ p q = (ap (λ (o : Outcome). o .given) (p ∙ sym q), ap (λ (o : Outcome). o .tables .books) (p ∙ sym q), ap (λ (o : Outcome). o .tables .strips) (p ∙ sym q))
+
+pub arrive-frame-one : (κs : _) (a : _) (r r′ : _) (x x′ : _) → arrive-frame.Learnt κs a r x → arrive-frame.Learnt κs a r′ x′
+    → (r ≡ r′) × (now (x .1 .0) ≡ now (x′ .1 .0)) × (now (x .1 .1 .0) ≡ now (x′ .1 .1 .0))
+arrive-frame-one κs a r r′ x x′ p q =
+    (ap (λ (o : Framed). o .frame) (p ∙ sym q), ap (λ (o : Framed). o .tables .books) (p ∙ sym q), ap (λ (o : Framed). o .tables .strips) (p ∙ sym q))
 
 pub arrive-cut-one : (κs : _) (a : _) (r r′ : _) (x x′ : _) → arrive-cut.Learnt κs a r x → arrive-cut.Learnt κs a r′ x′
     → (r ≡ r′) × (now (x .1 .0) ≡ now (x′ .1 .0)) × (now (x .1 .1 .0) ≡ now (x′ .1 .1 .0))
