@@ -38,7 +38,8 @@ onward bytes time x =
 unfoldable pub through : ℕ → List ℕ → ℕ → Framed → Framed
 through zero bytes time x = x
 through (suc left) bytes time x =
-    cond (accepted (onward bytes time x .frame .answer)) (through left bytes time (onward bytes time x)) (onward bytes time x)
+    let y : Framed = onward bytes time x in
+    cond (accepted (y .frame .answer)) (through left bytes time y) y
 
 -- "one call per repaint, working through at most as many units as the caller allows"
 abbrev pub framed : State → List ℕ → ℕ → ℕ → Framed

@@ -26,6 +26,7 @@ use Rattle.feed.specs.Answers as feed-Answers
 use Rattle.feed.specs.Code.Judging as feed-Code-Judging
 use Rattle.feed.specs.Events as feed-Events
 use Rattle.feed.specs.Feeds as feed-Feeds
+use Rattle.feed.specs.Frames as feed-Frames
 use Rattle.feed.specs.Messages as feed-Messages
 use Rattle.feed.specs.Program as feed-Program
 use Rattle.feed.specs.Reasons as feed-Reasons
@@ -38,6 +39,7 @@ use Rattle.promises.specs.Demands as promises-Demands
 use Rattle.promises.specs.Desk as promises-Desk
 use Rattle.promises.specs.Emptied as promises-Emptied
 use Rattle.promises.specs.Entries as promises-Entries
+use Rattle.promises.specs.Frames as promises-Frames
 use Rattle.promises.specs.GoodMorning as promises-GoodMorning
 use Rattle.promises.specs.Leaves as promises-Leaves
 use Rattle.promises.specs.Ledger as promises-Ledger
@@ -45,6 +47,7 @@ use Rattle.promises.specs.Mornings as promises-Mornings
 use Rattle.promises.specs.Phases as promises-Phases
 use Rattle.promises.specs.Pieces as promises-Pieces
 use Rattle.promises.specs.Refusals as promises-Refusals
+use Rattle.promises.specs.Repaints as promises-Repaints
 use Rattle.promises.specs.Runs as promises-Runs
 use Rattle.promises.specs.Section6 as promises-Section6
 use Rattle.promises.specs.Sizes as promises-Sizes
@@ -154,6 +157,10 @@ unfoldable feed-feeds : ℕ
 unfolding feed-Feeds.is feed-Feeds.deaf feed-Feeds.listedLimit feed-Feeds.newGiven feed-Feeds.badge feed-Feeds.phaseOf
 feed-feeds = 0
 
+unfoldable feed-frames : ℕ
+unfolding feed-Frames.onward feed-Frames.through
+feed-frames = 0
+
 unfoldable feed-messages : ℕ
 unfolding feed-Messages.datumOf feed-Messages.kindOf feed-Messages.onMarket feed-Messages.market feed-Messages.tabled feed-Messages.sized feed-Messages.wrongSize feed-Messages.statusOf feed-Messages.listedStatus feed-Messages.listed
 feed-messages = 0
@@ -202,6 +209,10 @@ unfoldable promises-entries : ℕ
 unfolding promises-Entries.makes promises-Entries.not promises-Entries.bids promises-Entries.offers promises-Entries.news promises-Entries.changes promises-Entries.deletes promises-Entries.walks
 promises-entries = 0
 
+unfoldable promises-frames : ℕ
+unfolding promises-Frames.singles promises-Frames.answersIn promises-Frames.acceptedIn promises-Frames.usedIn promises-Frames.afterAct promises-Frames.runActs promises-Frames.eventsOf promises-Frames.written promises-Frames.actsBytes
+promises-frames = 0
+
 unfoldable promises-goodmorning : ℕ
 unfolding promises-GoodMorning.on promises-GoodMorning.due promises-GoodMorning.again promises-GoodMorning.fits promises-GoodMorning.good promises-GoodMorning.fairNews promises-GoodMorning.fair promises-GoodMorning.afterLogon promises-GoodMorning.told promises-GoodMorning.says promises-GoodMorning.saidNews promises-GoodMorning.talk promises-GoodMorning.fairly
 promises-goodmorning = 0
@@ -229,6 +240,10 @@ promises-pieces = 0
 unfoldable promises-refusals : ℕ
 unfolding promises-Refusals.answersTo promises-Refusals.feedRefused
 promises-refusals = 0
+
+unfoldable promises-repaints : ℕ
+unfolding promises-Repaints.tells promises-Repaints.frame promises-Repaints.nothing promises-Repaints.five promises-Repaints.mixed promises-Repaints.live promises-Repaints.oneIn promises-Repaints.listed promises-Repaints.allIn promises-Repaints.numbers promises-Repaints.none promises-Repaints.second promises-Repaints.lostAt promises-Repaints.refusals promises-Repaints.session promises-Repaints.phases promises-Repaints.splits promises-Repaints.halves promises-Repaints.sameEvents promises-Repaints.writes promises-Repaints.scripts promises-Repaints.opening promises-Repaints.after promises-Repaints.mornings
+promises-repaints = 0
 
 unfoldable promises-runs : ℕ
 unfolding promises-Runs.after promises-Runs.run promises-Runs.trace promises-Runs.noteStatus promises-Runs.noteTaken promises-Runs.noteNews promises-Runs.note promises-Runs.recall promises-Runs.green promises-Runs.perform promises-Runs.replay promises-Runs.performOn promises-Runs.replayOn promises-Runs.performStrip promises-Runs.replayStrip
@@ -263,5 +278,5 @@ unfolding promises-Widths.widths
 promises-widths = 0
 
 unfoldable pub computes : ℕ
-unfolding bind ground-choice wire-codes wire-number wire-units slots-code-turns slots-layout slots-slots ladder-code-arrays ladder-code-loading ladder-message ladder-sides ladder-walk ladder-words books-code-rows books-reading books-table strips-code-shapes strips-forms strips-reading strips-table strips-words feed-answers feed-code-judging feed-events feed-feeds feed-messages feed-program feed-reasons feed-steps promises-answering promises-build promises-checks promises-decisions promises-demands promises-desk promises-emptied promises-entries promises-goodmorning promises-leaves promises-ledger promises-mornings promises-phases promises-pieces promises-refusals promises-runs promises-section6 promises-sizes promises-statuses promises-strips promises-tables promises-traps promises-widths
+unfolding bind ground-choice wire-codes wire-number wire-units slots-code-turns slots-layout slots-slots ladder-code-arrays ladder-code-loading ladder-message ladder-sides ladder-walk ladder-words books-code-rows books-reading books-table strips-code-shapes strips-forms strips-reading strips-table strips-words feed-answers feed-code-judging feed-events feed-feeds feed-frames feed-messages feed-program feed-reasons feed-steps promises-answering promises-build promises-checks promises-decisions promises-demands promises-desk promises-emptied promises-entries promises-frames promises-goodmorning promises-leaves promises-ledger promises-mornings promises-phases promises-pieces promises-refusals promises-repaints promises-runs promises-section6 promises-sizes promises-statuses promises-strips promises-tables promises-traps promises-widths
 computes = 0

@@ -16,6 +16,7 @@ use Rattle.promises.specs.Strips as Strips
 use Rattle.feed.specs.declared.Phase.the-variants.{WaitKey, WaitLogon, Refreshing, Live}
 use Rattle.promises.specs.Traps as Traps
 use Rattle.promises.specs.Mornings as Mornings
+use Rattle.promises.specs.Repaints as Repaints
 use Rattle.promises.proofs.Computes.{computes}
 
 pub desk-hold : wrong Desk.desk ≡ []
@@ -325,3 +326,31 @@ striped-hold = refl
 pub endings-hold : wrong Mornings.endings ≡ []
 unfolding computes
 endings-hold = refl
+
+pub frameNumbers-hold : wrong Repaints.numbers ≡ []
+unfolding computes
+frameNumbers-hold = refl
+
+pub frameNone-hold : wrong Repaints.none ≡ []
+unfolding computes
+frameNone-hold = refl
+
+pub frameRefusals-hold : wrong Repaints.refusals ≡ []
+unfolding computes
+frameRefusals-hold = refl
+
+pub framePhases-hold : wrong Repaints.phases ≡ []
+unfolding computes
+framePhases-hold = refl
+
+pub frameHalves-hold : wrong Repaints.halves ≡ []
+unfolding computes
+frameHalves-hold = refl
+
+pub frameScripts-hold : wrong Repaints.scripts ≡ []
+unfolding computes
+frameScripts-hold = refl
+
+pub frameMornings-hold : wrong Repaints.mornings ≡ []
+unfolding computes
+frameMornings-hold = refl

@@ -19,6 +19,7 @@ pub mod Ledger
 pub mod NoHole
 pub mod GoodMorning
 pub mod Mornings
+pub mod Repaints
 pub mod Leaves
 pub mod Decisions
 pub mod Pieces
