@@ -71,6 +71,20 @@ read-below s at n v i r h =
     let p : n - i ≡ n = omega arith in
     rw p at (r .below)
 
+-- two bytes and four, straight out
+pub two-bytes : (s : List ℕ) (at a b : ℕ) → a ≡ getD s at 0 → a < 256 → b ≡ getD s (at + 1) 0 → b < 256 → (a + 256 * b ≡ field at 2 s) × (a + 256 * b < 65536)
+unfolding field
+two-bytes s at a b p h q k = (rw (← p, ← q) (omega arith), omega arith)
+
+pub four-bytes : (s : List ℕ) (at a b c d : ℕ) → a ≡ getD s at 0 → a < 256 → b ≡ getD s (at + 1) 0 → b < 256 → c ≡ getD s (at + 2) 0 → c < 256
+    → d ≡ getD s (at + 3) 0 → d < 256
+    → (a + 256 * b + 65536 * c + 16777216 * d ≡ field at 4 s) × (a + 256 * b + 65536 * c + 16777216 * d < 4294967296)
+unfolding field
+four-bytes s at a b c d p h q k r l t m =
+    let y : at + 1 + 1 ≡ at + 2 = omega arith in
+    let z : at + 2 + 1 ≡ at + 3 = omega arith in
+    (rw (y, z, ← p, ← q, ← r, ← t) (omega arith), omega arith)
+
 -- a number of which not all bytes are there, and one of which none is
 pub cut-is : (s : List ℕ) (at n r : ℕ) → at < length s → length s - at < n → r ≡ field at (length s - at) s → r ≡ field at n s
 cut-is s at n r a h f = f ∙ sym (field-clip at n (length s - at) s (omega arith) (omega arith))

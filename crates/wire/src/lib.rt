@@ -77,12 +77,15 @@ pub fn u8_in(s: &[u8], at: usize) -> u64
     number_in(s, at, 1)
 }
 
-// The number in the 2 bytes from `at` on, both of them there.
+// The number in the 2 bytes from `at` on, both of them there. Straight out, and so are 4 bytes: then the reading of a unit is short enough to be put
+// into each of the calls that read one.
 pub fn u16_in(s: &[u8], at: usize) -> u64
     requires { ⌜ at + 2 ≤ length (now s) ⌝ }
     ensures { λ r. ⌜ (r ≡ field at 2 (now (s .entry))) × (r < 65536) ⌝ }
 {
-    number_in(s, at, 2)
+    let a = wide(s[at]);
+    let b = wide(s[at + 1]);
+    a + 256 * b
 }
 
 // The number in the 4 bytes from `at` on, all of them there.
@@ -90,7 +93,11 @@ pub fn u32_in(s: &[u8], at: usize) -> u64
     requires { ⌜ at + 4 ≤ length (now s) ⌝ }
     ensures { λ r. ⌜ (r ≡ field at 4 (now (s .entry))) × (r < 4294967296) ⌝ }
 {
-    number_in(s, at, 4)
+    let a = wide(s[at]);
+    let b = wide(s[at + 1]);
+    let c = wide(s[at + 2]);
+    let d = wide(s[at + 3]);
+    a + 256 * b + 65536 * c + 16777216 * d
 }
 
 // The number in the 8 bytes from `at` on, all of them there.
