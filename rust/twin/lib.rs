@@ -1,4 +1,4 @@
-//! Document 01 in plain Rust, with requests 1 and 2 of document 02, written from the documents alone: the same calls over
+//! Document 01 in plain Rust, with requests 1 to 3 of document 02, written from the documents alone: the same calls over
 //! the same tables of words.
 //! The library is compared with it, answer by answer and word by word.
 
@@ -118,6 +118,13 @@ pub struct Tables<'a> {
     pub strips: &'a mut [u64],
 }
 
+impl Tables<'_> {
+    /// The same tables, for one call of several.
+    fn again(&mut self) -> Tables<'_> {
+        Tables { books: self.books, strips: self.strips }
+    }
+}
+
 /// What a call hands back.
 #[derive(Clone, Copy, PartialEq, Eq, Debug)]
 pub struct Given {
@@ -126,6 +133,19 @@ pub struct Given {
     /// Bytes used.
     pub used: u64,
     /// The feed after the call.
+    pub feed: Feed,
+}
+
+/// What a whole frame hands back.
+#[derive(Clone, Copy, PartialEq, Eq, Debug)]
+pub struct Frame {
+    /// The last answer; Taken where no unit was allowed.
+    pub answer: Answer,
+    /// Units accepted.
+    pub accepted: u64,
+    /// Bytes that they used.
+    pub used: u64,
+    /// The feed after them.
     pub feed: Feed,
 }
 
@@ -215,6 +235,22 @@ pub fn arrive(feed: Feed, mut tables: Tables<'_>, stream: &[u8], time: u64) -> G
             Given { used: used as u64, ..given }
         }
     }
+}
+
+/// A whole frame's units arrive, at most as many as are allowed; More and the first refusal end it too.
+pub fn arrive_frame(feed: Feed, mut tables: Tables<'_>, stream: &[u8], allowed: u64, time: u64) -> Frame {
+    let mut frame = Frame { answer: Answer::Taken, accepted: 0, used: 0, feed };
+    while frame.accepted < allowed {
+        let given = arrive(frame.feed, tables.again(), &stream[frame.used as usize..], time);
+        frame.answer = given.answer;
+        frame.feed = given.feed;
+        if !given.answer.is_accepted() {
+            break;
+        }
+        frame.accepted += 1;
+        frame.used += given.used;
+    }
+    frame
 }
 
 /// A message already cut arrives.

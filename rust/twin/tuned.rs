@@ -5,7 +5,7 @@ use crate::book::{ENTRY, SLOT};
 use crate::slots::{code_listed, slot_words};
 use crate::strip::{self, STRIP};
 use crate::unit::{u16_at, u32_at, u64_at, HEADER};
-use crate::{Answer, Feed, Phase, Tables};
+use crate::{Answer, Feed, Frame, Phase, Tables};
 
 /// The first unit of a stream arrives; the answer and the bytes used.
 pub fn arrive(feed: &mut Feed, tables: Tables<'_>, stream: &[u8], time: u64) -> (Answer, u64) {
@@ -17,6 +17,22 @@ pub fn arrive(feed: &mut Feed, tables: Tables<'_>, stream: &[u8], time: u64) -> 
             (given.answer, given.used)
         }
     }
+}
+
+/// A whole frame's units arrive, at most as many as are allowed.
+pub fn arrive_frame(mut feed: Feed, mut tables: Tables<'_>, stream: &[u8], allowed: u64, time: u64) -> Frame {
+    let (mut accepted, mut rest) = (0, stream);
+    let mut last = Answer::Taken;
+    while accepted < allowed {
+        let (answer, used) = arrive(&mut feed, tables.again(), rest, time);
+        last = answer;
+        if !answer.is_accepted() {
+            break;
+        }
+        accepted += 1;
+        rest = &rest[used as usize..];
+    }
+    Frame { answer: last, accepted, used: (stream.len() - rest.len()) as u64, feed }
 }
 
 /// The message, if it is the next one, new to a feed in Live, and a book or a strip message of the right size.
