@@ -83,6 +83,20 @@ pub struct Arrival {
     pub used: usize,
 }
 
+/// What a whole frame comes to.
+#[must_use]
+#[non_exhaustive]
+#[derive(Clone, Copy, PartialEq, Eq, Debug)]
+pub struct Frame {
+    /// The last unit's answer: 0, 1 or 2 where the allowed number was reached, 3 where bytes are missing, else the refusal.
+    /// Where no unit was allowed it is 0.
+    pub answer: Answer,
+    /// Units that were accepted, with 0, 1 or 2, heartbeats too.
+    pub accepted: u64,
+    /// Bytes that they used: go on behind them.
+    pub used: usize,
+}
+
 /// One feed: what is known of a line, and whether its books may be shown as live.
 ///
 /// These are single calls; [`Line`](crate::Line) makes them for you. Whoever makes them keeps two things right by
@@ -145,6 +159,41 @@ impl Feed {
     pub fn arrive(&mut self, tables: &mut Tables<'_>, bytes: &[u8], time: u64) -> Arrival {
         let given = raw::arrive(self.plain, lent(tables), bytes, time);
         Arrival { answer: self.after(given), used: given.used as usize }
+    }
+
+    /// Works on a whole frame's units at once, at most as many as are allowed: what [`Feed::arrive`] does at this time with
+    /// the first unit, then with the next, up to one that is not accepted. Those before it stay accepted. With 0 allowed
+    /// nothing is looked at, whatever the time and the phase, and all stays as it is.
+    ///
+    /// ```
+    /// use mmdh::single::Feed;
+    /// use mmdh::{Answer, Connect, Phase, Tables};
+    ///
+    /// let mut feed = Feed::new(1_000)?;
+    /// let mut tables = Tables::with_slots(128);
+    /// assert!(feed.connect(Connect::Fresh, 5_000).is_accepted());
+    ///
+    /// // SendKey (1105), the logon response (1102) with status 0, a heartbeat; then a unit cut short
+    /// let line = [
+    ///     24, 0, 0, 0, 1, 0, 0, 0, 0, 0, 0, 0, 0, 0, 0, 0, 0, 0, 0, 0, 4, 0, 0x51, 4,
+    ///     28, 0, 0, 0, 2, 0, 0, 0, 0, 0, 0, 0, 0, 0, 0, 0, 0, 0, 0, 0, 8, 0, 0x4E, 4, 0, 0, 0, 0,
+    ///     20, 0, 0, 0, 2, 0, 0, 0, 0, 0, 0, 0, 0, 0, 0, 0, 0, 0, 0, 0,
+    ///     56, 0, 0,
+    /// ];
+    /// let frame = feed.arrive_frame(&mut tables, &line, 2, 5_016);
+    /// assert_eq!((frame.answer, frame.accepted, frame.used), (Answer::Taken, 2, 52));
+    /// assert_eq!(feed.phase(), Phase::Live);
+    ///
+    /// // the next frame ends where bytes are missing, and they are handed in again with more behind them
+    /// let frame = feed.arrive_frame(&mut tables, &line[52..], 100, 5_033);
+    /// assert_eq!((frame.answer, frame.accepted, frame.used), (Answer::More, 1, 20));
+    /// assert_eq!(feed.heard(), 5_033);
+    /// # Ok::<(), mmdh::Refused>(())
+    /// ```
+    pub fn arrive_frame(&mut self, tables: &mut Tables<'_>, bytes: &[u8], allowed: u64, time: u64) -> Frame {
+        let given = raw::arrive_frame(self.plain, lent(tables), bytes, allowed, time);
+        self.plain = given.feed;
+        Frame { answer: Answer::given(given.answer), accepted: given.accepted, used: given.used as usize }
     }
 
     /// Works on a message already cut out, with the two numbers of its header.

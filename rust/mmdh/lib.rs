@@ -59,7 +59,7 @@ pub use why::{Closing, Loss, Reason, Why};
 /// Single calls: a feed without its tables and without the bytes not yet used. [`Line`] makes them in the right order;
 /// they are for those who keep tables or bytes in a way of their own.
 pub mod single {
-    pub use crate::feed::{Arrival, Feed};
+    pub use crate::feed::{Arrival, Feed, Frame};
 }
 
 /// The life of a connection.

@@ -60,7 +60,8 @@ struct Saw {
 pub struct Heard {
     /// Units that were accepted.
     pub units: u64,
-    /// Bytes that wait for the rest of their unit.
+    /// Bytes that wait for the rest of their unit; after a frame in which the allowed number was reached there may be whole
+    /// units among them.
     pub waiting: usize,
 }
 
@@ -134,6 +135,43 @@ impl Line {
 
     /// The same, and each accepted unit is shown.
     pub fn hear_each(&mut self, bytes: &[u8], time: u64, each: impl FnMut(&Unit<'_>)) -> Result<Heard, Refused> {
+        self.behind_waiting(bytes, |line, bytes| line.take(bytes, time, each))
+    }
+
+    /// Bytes have come, or none, and the screen is to be painted: at most as many units as are allowed are worked on, all in
+    /// one call. The rest waits for the next. Where `units` is the allowed number there may be whole units in it; else it
+    /// waits for the line.
+    ///
+    /// A refusal ends it as it ends [`Line::hear`], and units that were accepted before it stay so. With 0 allowed nothing
+    /// is refused or heard, whatever the time and the phase: the bytes only wait.
+    ///
+    /// ```
+    /// use mmdh::{Badge, Connect, Line};
+    /// let mut line = Line::new(1_000, 128)?;
+    /// line.connect(Connect::Fresh, 5_000)?;
+    ///
+    /// // SendKey, the logon response with status 0 and a heartbeat came before the first repaint
+    /// # let key = [24, 0, 0, 0, 1, 0, 0, 0, 0, 0, 0, 0, 0, 0, 0, 0, 0, 0, 0, 0, 4, 0, 0x51, 4];
+    /// # let logon = [28, 0, 0, 0, 2, 0, 0, 0, 0, 0, 0, 0, 0, 0, 0, 0, 0, 0, 0, 0, 8, 0, 0x4E, 4, 0, 0, 0, 0];
+    /// # let bytes = [&key[..], &logon, &[20, 0, 0, 0].repeat(5)].concat();
+    /// let heard = line.hear_frame(&bytes, 2, 5_016)?;
+    /// assert_eq!((heard.units, heard.waiting), (2, 20));
+    /// assert_eq!(line.badge(5_016), Badge::Green);
+    ///
+    /// // nothing more has come by the second, which takes what was left
+    /// let heard = line.hear_frame(&[], 2, 5_033)?;
+    /// assert_eq!((heard.units, heard.waiting), (1, 0));
+    /// # Ok::<(), mmdh::Refused>(())
+    /// ```
+    pub fn hear_frame(&mut self, bytes: &[u8], allowed: u64, time: u64) -> Result<Heard, Refused> {
+        self.behind_waiting(bytes, |line, bytes| line.take_frame(bytes, allowed, time))
+    }
+
+    /// Works on the bytes that wait with these behind them, and keeps what was not used; a refusal other than 10 drops it.
+    fn behind_waiting<F>(&mut self, bytes: &[u8], work: F) -> Result<Heard, Refused>
+    where
+        F: FnOnce(&mut Line, &[u8]) -> (usize, Option<Refused>),
+    {
         let mut held = std::mem::take(&mut self.held);
         let mut waiting = bytes;
         if !held.is_empty() {
@@ -141,7 +179,7 @@ impl Line {
             waiting = &held;
         }
         let before = self.saw.units;
-        let (used, ended) = self.take(waiting, time, each);
+        let (used, ended) = work(self, waiting);
         let keep = ended.map_or(true, |refused| refused.answer() == Answer::Early);
         let rest = if keep { waiting[used..].to_vec() } else { Vec::new() };
         self.held = rest;
@@ -153,26 +191,41 @@ impl Line {
         let mut used = 0;
         loop {
             let rest = &bytes[used..];
-            let expected = self.feed.next();
             let arrival = self.feed.arrive(&mut self.tables, rest, time);
             match arrival.answer.or_refused() {
                 Ok(Answer::More) => return (used, None),
                 Ok(answer) => {
                     let unit = &rest[..arrival.used];
                     used += arrival.used;
-                    self.accepted(&unit[HEADER..], time);
+                    self.accepted(1, || &unit[HEADER..], time);
                     let (number, feed, tables) = (self.saw.units, &self.feed, &self.tables);
                     each(&Unit { answer, number, bytes: unit, feed, books: &tables.books, strips: &tables.strips });
                 }
                 Err(refused) => {
-                    let met = rest.get(4..8).and_then(|seq| seq.try_into().ok()).map_or(0, u32::from_le_bytes);
-                    self.refused(refused, (expected, met), rest.get(HEADER..).unwrap_or(&[]), time);
+                    self.refused_unit(refused, rest, time);
                     return (used, Some(refused));
                 }
             }
             if used == bytes.len() {
                 return (used, None);
             }
+        }
+    }
+
+    /// A frame's units at once; how many bytes were used.
+    fn take_frame(&mut self, bytes: &[u8], allowed: u64, time: u64) -> (usize, Option<Refused>) {
+        let frame = self.feed.arrive_frame(&mut self.tables, bytes, allowed, time);
+        let (units, rest) = bytes.split_at(frame.used);
+        if frame.accepted > 0 {
+            self.accepted(frame.accepted, || last_message(units), time);
+        }
+        match frame.answer.or_refused() {
+            // a logout that all bytes end with is accepted, and nothing is asked behind it
+            Err(refused) if frame.accepted == 0 || !rest.is_empty() => {
+                self.refused_unit(refused, rest, time);
+                (frame.used, Some(refused))
+            }
+            _ => (frame.used, None),
         }
     }
 
@@ -194,20 +247,29 @@ impl Line {
         let expected = self.feed.next();
         let heard = self.feed.arrive_cut(&mut self.tables, seq, internal, message, time).or_refused();
         match heard {
-            Ok(_) => self.accepted(message, time),
+            Ok(_) => self.accepted(1, || message, time),
             Err(refused) => self.refused(refused, (expected, seq), message, time),
         }
         heard
     }
 
-    /// Notes a unit by its message, and the one that closes the line.
-    fn accepted(&mut self, message: &[u8], time: u64) {
-        self.saw.units += 1;
-        if let (Phase::Closed, Some(message)) = (self.feed.phase(), message.get(..8)) {
+    /// Notes units, and by the last one's message what closes the line: behind it none is accepted.
+    fn accepted<'a>(&mut self, units: u64, last: impl FnOnce() -> &'a [u8], time: u64) {
+        self.saw.units += units;
+        if self.feed.phase() != Phase::Closed {
+            return;
+        }
+        if let Some(message) = last().get(..8) {
             let kind = u16::from_le_bytes([message[2], message[3]]);
             let status = if kind == 1103 { message[4] } else { message[6] };
             self.saw.closing = Some(Closing { kind, status, unit: self.saw.units, time });
         }
+    }
+
+    /// Notes the unit at the front of these bytes that lost the line, if it did; next is still what it was.
+    fn refused_unit(&mut self, refused: Refused, bytes: &[u8], time: u64) {
+        let met = bytes.get(4..8).and_then(|seq| seq.try_into().ok()).map_or(0, u32::from_le_bytes);
+        self.refused(refused, (self.feed.next(), met), bytes.get(HEADER..).unwrap_or(&[]), time);
     }
 
     /// Notes the arrival that lost the line, with the SeqNums expected and met.
@@ -291,8 +353,21 @@ impl Line {
         self.saw.units
     }
 
-    /// Bytes that wait for the rest of their unit.
+    /// Bytes that wait for the rest of their unit, or for the next frame.
     pub fn waiting(&self) -> usize {
         self.held.len()
+    }
+}
+
+/// The last message of some whole units; none where that is a heartbeat's.
+fn last_message(mut units: &[u8]) -> &[u8] {
+    loop {
+        let heartbeat = units[..2] == [HEADER as u8, 0];
+        let size = if heartbeat { 0 } else { usize::from(u16::from_le_bytes([units[HEADER], units[HEADER + 1]])) };
+        let (unit, rest) = units.split_at(HEADER + size);
+        if rest.is_empty() {
+            return &unit[HEADER..];
+        }
+        units = rest;
     }
 }

@@ -35,6 +35,20 @@ pub struct MmdhGiven {
     pub feed: MmdhFeed,
 }
 
+/// What a whole frame hands back.
+#[repr(C)]
+#[derive(Clone, Copy, PartialEq, Eq, Debug, Default)]
+pub struct MmdhFrame {
+    /// The last unit's number; 0 where none was allowed.
+    pub answer: u64,
+    /// Units accepted.
+    pub accepted: u64,
+    /// Bytes that they used.
+    pub used: u64,
+    /// The feed after them.
+    pub feed: MmdhFeed,
+}
+
 /// What reading a row hands back.
 #[repr(C)]
 #[derive(Clone, Copy, PartialEq, Eq, Debug, Default)]
@@ -133,6 +147,17 @@ extern "C" {
         len: usize,
         time: u64,
     ) -> MmdhGiven;
+    fn mmdh_arrive_frame(
+        feed: MmdhFeed,
+        books: *mut u64,
+        books_len: usize,
+        strips: *mut u64,
+        strips_len: usize,
+        bytes: *const u8,
+        len: usize,
+        allowed: u64,
+        time: u64,
+    ) -> MmdhFrame;
     fn mmdh_arrive_cut(
         feed: MmdhFeed,
         books: *mut u64,
@@ -181,6 +206,15 @@ pub fn arrive(feed: MmdhFeed, lent: Lent<'_>, bytes: &[u8], time: u64) -> MmdhGi
     // SAFETY: all pointers come with the lengths of the slices they are from. The call reads and writes only within the
     // tables and reads only within the bytes, keeps none of them, and `&mut` says that they lie apart.
     unsafe { mmdh_arrive(feed, at_books, books, at_strips, strips, bytes.as_ptr(), len, time) }
+}
+
+/// A whole frame's units arrive, at most as many as are allowed; with 0 the feed comes back as it was handed in.
+#[inline]
+pub fn arrive_frame(feed: MmdhFeed, lent: Lent<'_>, bytes: &[u8], allowed: u64, time: u64) -> MmdhFrame {
+    let (books, strips, len) = (lent.books.len(), lent.strips.len(), bytes.len());
+    let (at_books, at_strips) = (lent.books.as_mut_ptr(), lent.strips.as_mut_ptr());
+    // SAFETY: as for `arrive`.
+    unsafe { mmdh_arrive_frame(feed, at_books, books, at_strips, strips, bytes.as_ptr(), len, allowed, time) }
 }
 
 /// A message already cut arrives, with the header's two numbers.
