@@ -75,6 +75,8 @@ emulated() {
     for libm in /usr/x86_64-linux-gnu/lib/libm-[0-9]*.a; do
         [ -e "$libm" ] && ln -sf "$libm" "$out/x86/libm.a"
     done
+    # a copy by 'rep movsb' goes byte by byte under an emulator: the C library's loops instead
+    export GLIBC_TUNABLES=glibc.cpu.x86_rep_movsb_threshold=1073741824:glibc.cpu.x86_rep_stosb_threshold=1073741824
     # Debian's tools before others of the same names
     settings=("PATH=/usr/bin:/bin:$PATH" CARGO=/usr/bin/cargo RUSTC=/usr/bin/rustc RUSTDOC=/usr/bin/rustdoc
         CARGO_TARGET_X86_64_UNKNOWN_LINUX_GNU_LINKER=x86_64-linux-gnu-gcc
