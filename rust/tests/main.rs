@@ -1,4 +1,4 @@
-//! The library against the twin, call by call; the vectors, document 01's examples, emptied books and price strips.
+//! The library against the twin, call by call; the vectors, document 01's examples, emptied books, price strips and frames.
 //! The last line is 'N passed, M failed'.
 
 #![forbid(unsafe_code)]
@@ -6,6 +6,7 @@
 mod badges;
 mod emptied;
 mod examples;
+mod frames;
 mod grids;
 mod history;
 mod pair;
@@ -26,7 +27,7 @@ use std::process::exit;
 use std::thread;
 
 const SEED: u64 = 0x0DD1_07C0_FFEE_D001;
-const ROUNDS: u64 = 2_400_000;
+const ROUNDS: u64 = 1_600_000;
 const USAGE: &str = "tests [--seed N] [--rounds N] [--vectors FOLDER]";
 
 struct Options {
@@ -69,12 +70,14 @@ fn main() {
     examples::check(&mut pair);
     emptied::check(&mut pair, &mut dice, options.rounds / 100);
     strips::check(&mut pair, &mut dice, options.rounds / 100);
+    frames::check(&mut pair);
     grids::check(&mut pair, &mut dice);
     badges::check(&mut pair, &mut dice, options.rounds / 4);
     sides::check(&mut pair.tally, &mut dice, options.rounds / 1_000);
     singles::check_large(&mut pair, &mut dice, options.rounds / 3_000);
-    runs::check(&mut pair, &mut dice, options.rounds / 6_000, 500);
-    runs::check_market(&mut pair, (options.rounds / 40) as u32);
+    singles::check_tuned(&mut pair, &mut dice, options.rounds / 4);
+    runs::check(&mut pair, &mut dice, options.rounds / 4_000, 500);
+    runs::check_market(&mut pair, (options.rounds / 30) as u32);
     pair.tally.add(singles.join().expect("single calls"));
     if !pair.tally.finish() {
         exit(1);

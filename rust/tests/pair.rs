@@ -1,9 +1,11 @@
-//! One call made twice: through the C calls and to the twin, then compared in answer, feed, bytes used and every word.
+//! One call made twice: through the C calls and to the twin, then compared in answer, feed, bytes used and every word. A frame
+//! is made a third time, by single C calls.
 
 use crate::tables::{words, Tables};
 use crate::tally::{Call, Tally};
-use mmdh::raw::{self, MmdhFeed, MmdhGiven, MmdhLevel, MmdhRow, MmdhSide, MmdhStrip, ROWS};
-use twin::{Feed, Given, Phase, Read, ReadSide, ReadStrip};
+use mmdh::raw::{self, MmdhFeed, MmdhFrame, MmdhGiven, MmdhLevel, MmdhRow, MmdhSide, MmdhStrip, ROWS};
+use std::fmt::Debug;
+use twin::{Feed, Frame, Given, Phase, Read, ReadSide, ReadStrip};
 
 /// The twin's feed of plain numbers.
 pub fn twin_feed(plain: MmdhFeed) -> Feed {
@@ -31,8 +33,36 @@ pub fn plain_feed(feed: Feed) -> MmdhFeed {
     }
 }
 
-fn plain_given(given: Given) -> MmdhGiven {
+/// The plain numbers of what the twin hands back.
+pub fn plain_given(given: Given) -> MmdhGiven {
     MmdhGiven { answer: given.answer as u64, used: given.used, feed: plain_feed(given.feed) }
+}
+
+/// The plain numbers of a frame; where no unit was allowed, the feed is the one handed in, its odd numbers too.
+pub fn plain_frame(frame: Frame, allowed: u64, handed: MmdhFeed) -> MmdhFrame {
+    let feed = if allowed == 0 { handed } else { plain_feed(frame.feed) };
+    MmdhFrame { answer: frame.answer as u64, accepted: frame.accepted, used: frame.used, feed }
+}
+
+/// A frame by single C calls at the same time, and what each of them handed back.
+pub fn by_calls(
+    feed: MmdhFeed,
+    tables: &mut Tables,
+    bytes: &[u8],
+    allowed: u64,
+    time: u64,
+) -> (MmdhFrame, Vec<MmdhGiven>) {
+    let mut calls: Vec<MmdhGiven> = Vec::new();
+    let (mut after, mut used) = (feed, 0);
+    while (calls.len() as u64) < allowed && calls.last().map_or(true, |last| last.answer <= 2) {
+        let given = raw::arrive(after, tables.lend(), &bytes[used..], time);
+        after = given.feed;
+        used += given.used as usize;
+        calls.push(given);
+    }
+    let answer = calls.last().map_or(0, |last| last.answer);
+    let accepted = calls.iter().filter(|given| given.answer <= 2).count() as u64;
+    (MmdhFrame { answer, accepted, used: used as u64, feed: after }, calls)
 }
 
 fn plain_row(read: Read) -> MmdhRow {
@@ -108,6 +138,38 @@ impl Pair {
             tables,
         );
         ours
+    }
+
+    /// A frame on a copy of the tables, the library against the twin and against its own single calls; what these handed
+    /// back is given beside it.
+    pub fn frame(
+        &mut self,
+        feed: MmdhFeed,
+        tables: &Tables,
+        bytes: &[u8],
+        allowed: u64,
+        time: u64,
+    ) -> (MmdhFrame, Vec<MmdhGiven>) {
+        self.copy(tables);
+        let ours = raw::arrive_frame(feed, self.ours.lend(), bytes, allowed, time);
+        let twins = twin::arrive_frame(twin_feed(feed), self.twins.lend_twin(), bytes, allowed, time);
+        let input =
+            |by: &str| format!("frame and {}: {:?} allowed {} time {}\n  {:02x?}", by, feed, allowed, time, bytes);
+        self.tally.met(Call::ArriveFrame, ours.answer);
+        self.compare(&ours, &plain_frame(twins, allowed, feed), || input("the twin's"), tables);
+        self.twins.copy(tables);
+        let (singles, calls) = by_calls(feed, &mut self.twins, bytes, allowed, time);
+        self.compare(&ours, &singles, || input("single calls"), tables);
+        (ours, calls)
+    }
+
+    /// The tuned twin's frame against the plain one's.
+    pub fn tuned_frame(&mut self, feed: MmdhFeed, tables: &Tables, bytes: &[u8], allowed: u64, time: u64) {
+        self.copy(tables);
+        let tuned = twin::tuned::arrive_frame(twin_feed(feed), self.ours.lend_twin(), bytes, allowed, time);
+        let twins = twin::arrive_frame(twin_feed(feed), self.twins.lend_twin(), bytes, allowed, time);
+        let input = || format!("tuned frame {:?} allowed {} time {}\n  {:02x?}", feed, allowed, time, bytes);
+        self.compare(&tuned, &twins, input, tables);
     }
 
     /// A message already cut, on a copy of the tables.
@@ -206,7 +268,7 @@ impl Pair {
         self.twins.copy(tables);
     }
 
-    fn compare(&mut self, ours: &MmdhGiven, twins: &MmdhGiven, input: impl FnOnce() -> String, tables: &Tables) {
+    fn compare<T: PartialEq + Debug>(&mut self, ours: &T, twins: &T, input: impl FnOnce() -> String, tables: &Tables) {
         let good = ours == twins && self.ours == self.twins;
         let (after, wanted) = (&self.ours, &self.twins);
         self.tally.holds(good, || {

@@ -1,6 +1,7 @@
-//! Single calls on random feeds, tables, bytes and times.
+//! Single calls and single frames on random feeds, tables, bytes and times.
 
 use crate::emptied::meets;
+use crate::frames;
 use crate::pair::Pair;
 use crate::scene::{self, SLOT, STRIP, STRIPS};
 use crate::strips;
@@ -13,17 +14,21 @@ const LENGTHS: [usize; 14] = [0, 63, 64, 64, 64, 65, 127, 128, 128, 128, 129, 19
 
 const LIVE: MmdhFeed = MmdhFeed { phase: 4, next: 1, internal: 0, heard: 0, limit: 1_000, whole: 1, fresh: 1 };
 
-/// Calls on one table before it is made anew.
+/// Calls on one table before it is made anew, and frames among them.
 const CALLS: u64 = 10;
+const FRAMES: u64 = 1;
 
 /// Small tables, many calls.
 pub fn check(pair: &mut Pair, dice: &mut Dice, rounds: u64) {
-    pair.tally.part("single arrivals, rows, sides and strips read, library against twin");
+    pair.tally.part("single arrivals and frames, rows, sides and strips read, library against twin");
     for _ in 0..rounds / CALLS {
         let words = dice.of(&LENGTHS);
         let tables = scene::tables(dice, words);
-        for _ in 0..CALLS {
+        for _ in FRAMES..CALLS {
             arrival(pair, dice, &tables);
+        }
+        for _ in 0..FRAMES {
+            frames::single(pair, dice, &tables);
         }
     }
     pair.tally.part("single connects and new feeds, library against twin");
@@ -34,13 +39,20 @@ pub fn check(pair: &mut Pair, dice: &mut Dice, rounds: u64) {
         pair.new_feed(dice.of(&[0, 1, 2, 1_000, 599_999, 600_000, 600_001, u64::MAX]));
         pair.new_feed(scene::edge(dice));
     }
-    pair.tally.part("tuned twin against plain twin");
-    for _ in 0..rounds / 4 / CALLS {
+}
+
+/// The tuned twin, on tables of the same kinds.
+pub fn check_tuned(pair: &mut Pair, dice: &mut Dice, rounds: u64) {
+    pair.tally.part("tuned twin against plain twin, arrivals and frames");
+    for _ in 0..rounds / CALLS {
         let words = dice.of(&LENGTHS);
         let tables = scene::tables(dice, words);
-        for _ in 0..CALLS {
+        for _ in FRAMES..CALLS {
             let (feed, bytes, time) = stream(dice, &tables);
             pair.tuned(feed, &tables, &bytes, time);
+        }
+        for _ in 0..FRAMES {
+            frames::tuned(pair, dice, &tables);
         }
     }
 }

@@ -1,5 +1,5 @@
-//! Counts what was compared, by part, every answer that the library gave, and what was met by messages that empty a book
-//! and by those for a strip.
+//! Counts what was compared, by part, every answer that the library gave, and what was met by messages that empty a book,
+//! by those for a strip and by frames.
 
 use crate::scene::STRIPS;
 use mmdh::raw::MmdhGiven;
@@ -12,6 +12,7 @@ pub enum Call {
     New,
     Connect,
     Arrive,
+    ArriveFrame,
     ArriveCut,
     ReadRow,
     ReadSide,
@@ -19,10 +20,11 @@ pub enum Call {
     Why,
 }
 
-const WANTED: [(Call, &[u64]); 8] = [
+const WANTED: [(Call, &[u64]); 9] = [
     (Call::New, &[0, 19]),
     (Call::Connect, &[0, 10, 20]),
     (Call::Arrive, &[0, 1, 2, 3, 10, 11, 12, 13, 14, 15, 16, 17, 18]),
+    (Call::ArriveFrame, &[0, 1, 2, 3, 10, 11, 12, 13, 14, 15, 16, 17, 18]),
     (Call::ArriveCut, &[0, 1, 2, 10, 11, 12, 13, 14, 15, 16, 17, 18]),
     (Call::ReadRow, &[0, 4, 15, 18]),
     (Call::ReadSide, &[0, 4, 15, 18]),
@@ -146,6 +148,48 @@ fn to_be_met(phase: u64) -> impl Iterator<Item = StripMeets> {
 /// The phases that are open, and their names.
 const OPEN: [(u64, &str); 4] = [(1, "WaitKey"), (2, "WaitLogon"), (3, "Refreshing"), (4, "Live")];
 
+/// What a frame may meet.
+#[derive(Clone, Copy, PartialEq, Eq, PartialOrd, Ord, Debug)]
+pub enum Meeting {
+    /// No unit allowed, in this phase; every phase that is not known is 7.
+    NoneAllowed(u64),
+    /// No unit allowed, and the time is before the last heard one.
+    NoneAllowedEarly,
+    /// The allowed number was reached, with this answer.
+    Reached(u64),
+    /// It was, and so was the end of the bytes.
+    ReachedAtTheEnd,
+    /// The first unit got this answer, which ends a frame.
+    AtOnce(u64),
+    /// A unit behind accepted ones got it.
+    Behind(u64),
+    /// All bytes were used, and more units were allowed than there are.
+    Beyond,
+    /// As many as a number can say were allowed, and some were accepted.
+    Unlimited,
+    /// Two units and more were accepted, from this phase on.
+    Several(u64),
+    /// From WaitKey to Live or to Refreshing.
+    Through(u64),
+    /// A book message and a strip message were taken.
+    Mixed,
+    /// Heartbeats alone were accepted, two and more.
+    Heartbeats,
+    /// A heartbeat was accepted between two messages.
+    Between,
+}
+
+/// All that random frames must have met by the end. 10 comes at once or never, as the clock stands still in a frame.
+fn meetings() -> impl Iterator<Item = Meeting> {
+    use Meeting::*;
+    let alone =
+        [NoneAllowedEarly, ReachedAtTheEnd, Beyond, Unlimited, Mixed, Heartbeats, Between, Through(3), Through(4)];
+    let ends = [3].into_iter().chain(11..=18);
+    let none = (0..=7).map(NoneAllowed).chain([AtOnce(10)]);
+    let reached = (0..=2).map(Reached).chain((1..=4).map(Several));
+    alone.into_iter().chain(none).chain(reached).chain(ends.clone().map(AtOnce)).chain(ends.map(Behind))
+}
+
 /// Differences printed in full before the rest are only counted.
 const SHOWN: u64 = 10;
 
@@ -157,6 +201,7 @@ pub struct Tally {
     answers: BTreeMap<(Call, u64), u64>,
     emptying: BTreeMap<(u64, Meets), u64>,
     strips: BTreeMap<(u64, StripMeets), u64>,
+    frames: BTreeMap<Meeting, u64>,
 }
 
 impl Tally {
@@ -201,6 +246,11 @@ impl Tally {
         *self.strips.entry((phase, met)).or_insert(0) += 1;
     }
 
+    /// Notes what a random frame met.
+    pub fn frame(&mut self, met: Meeting) {
+        *self.frames.entry(met).or_insert(0) += 1;
+    }
+
     /// One comparison; the input is described only where the two differ.
     pub fn same<T: PartialEq + Debug>(&mut self, got: &T, wanted: &T, input: impl FnOnce() -> String) -> bool {
         self.holds(got == wanted, || format!("{}\n  got    {:?}\n  wanted {:?}", input(), got, wanted))
@@ -236,6 +286,9 @@ impl Tally {
         for (met, times) in other.strips {
             *self.strips.entry(met).or_insert(0) += times;
         }
+        for (met, times) in other.frames {
+            *self.frames.entry(met).or_insert(0) += times;
+        }
     }
 
     /// Prints the counts; true where all passed.
@@ -261,6 +314,11 @@ impl Tally {
                 self.holds(met, || format!("type {} in {} never met {:?}", meets.kind, name, meets.finds));
             }
         }
+        self.part("all that frames may meet, met at random");
+        for meeting in meetings() {
+            let met = self.frames.contains_key(&meeting);
+            self.holds(met, || format!("a frame never met {:?}", meeting));
+        }
         for (name, count) in &self.parts {
             println!("{:>9}  {}", count, name);
         }
@@ -273,6 +331,7 @@ impl Tally {
         for (phase, name) in OPEN {
             println!("strip messages in {} (what they met: times)  {}", name, self.strips_in(phase));
         }
+        println!("frames (what they met: times)  {}", listed(self.frames.iter()));
         println!("{} passed, {} failed", self.passed, self.failed);
         self.failed == 0
     }
@@ -289,7 +348,9 @@ impl Tally {
 
 /// All that was counted of one call, or in one phase.
 fn times<Of: PartialEq, What: Debug>(counts: &BTreeMap<(Of, What), u64>, of: Of) -> String {
-    let counts = counts.iter().filter(|((counted, _), _)| *counted == of);
-    let times: Vec<String> = counts.map(|((_, what), times)| format!("{:?}: {}", what, times)).collect();
-    times.join("  ")
+    listed(counts.iter().filter(|((counted, _), _)| *counted == of).map(|((_, what), times)| (what, times)))
+}
+
+fn listed<'a, What: Debug + 'a>(counts: impl Iterator<Item = (&'a What, &'a u64)>) -> String {
+    counts.map(|(what, times)| format!("{:?}: {}", what, times)).collect::<Vec<String>>().join("  ")
 }
