@@ -22,6 +22,7 @@ impl Desk {
             "new" => self.new_feed(&mut words).map(Some),
             "connect" => self.connect(&mut words).map(Some),
             "arrive" => self.arrive(&mut words).map(Some),
+            "frame" => self.frame(&mut words).map(Some),
             "cut" => self.cut(&mut words).map(Some),
             "badge" => self.badge(&mut words).map(Some),
             "badgec" => badge_of_numbers(&mut words).map(Some),
@@ -100,6 +101,14 @@ impl Desk {
         words.end()?;
         let given = raw::arrive(self.feed()?, self.lend(), &bytes, now);
         Ok(self.after("arrive", given, true))
+    }
+
+    fn frame(&mut self, words: &mut Words<'_>) -> Result<String, String> {
+        let (now, allowed, bytes) = (words.number("NOW")?, words.number("ALLOWED")?, words.bytes("BYTES")?);
+        words.end()?;
+        let frame = raw::arrive_frame(self.feed()?, self.lend(), &bytes, allowed, now);
+        self.feed = Some(frame.feed);
+        Ok(format!("frame {} {} {} {}", frame.answer, frame.accepted, frame.used, numbers(&frame.feed)))
     }
 
     fn cut(&mut self, words: &mut Words<'_>) -> Result<String, String> {
