@@ -30,17 +30,20 @@ impl Capture {
         self.ends
     }
 
-    /// The next unit, or what there is of it, and its time, if it was sent by then.
+    /// All units that were sent by a time and not handed out before, with what there is of the last, and when the newest of
+    /// them was sent; nothing where there are none.
     pub fn due(&mut self, time: u64) -> Option<(&[u8], u64)> {
-        let rest = &self.bytes[self.at..];
-        let sent = step(self.time, sent_at(rest)?);
-        if sent > time {
-            return None;
+        let from = self.at;
+        while let Some(sent) = self.next_sent().filter(|&sent| sent <= time) {
+            let rest = &self.bytes[self.at..];
+            self.at += unit_length(rest).min(rest.len());
+            self.time = sent;
         }
-        let unit = unit_length(rest).min(rest.len());
-        self.time = sent;
-        self.at += unit;
-        Some((&rest[..unit], sent))
+        Some((&self.bytes[from..self.at], self.time)).filter(|(units, _)| !units.is_empty())
+    }
+
+    fn next_sent(&self) -> Option<u64> {
+        sent_at(&self.bytes[self.at..]).map(|sent| step(self.time, sent))
     }
 
     fn last_sent(&self) -> u64 {

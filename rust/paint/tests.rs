@@ -188,6 +188,26 @@ fn the_emptied_books_of_the_morning() {
     assert!(!emptied(60_000, "66") && !emptied(60_000, "27"), "filled again");
 }
 
+/// However many frames come before it, a frame shows the same: each takes what was sent since the one before.
+#[test]
+fn a_frame_takes_all_that_was_sent_since_the_one_before() {
+    let bytes = std::fs::read("../../captures/morning.bin").expect("the capture");
+    let (at_once, end) = morning(12_003);
+    for step in [1, 33, 500, 11_000] {
+        let mut desk = Desk::new(3_000, Capture::new(bytes.clone())).expect("listed");
+        let mut time = desk.begins();
+        while time < end {
+            desk.hear(time);
+            time = end.min(time + step);
+        }
+        desk.hear(end);
+        for time in [end, end + 2_000, end + 3_500] {
+            let (painted, wanted) = (frame(&desk, "", 132, 60, time), frame(&at_once, "", 132, 60, time));
+            assert_eq!(painted, wanted, "steps of {} ms", step);
+        }
+    }
+}
+
 /// What stands in a panel's strip.
 fn strip_of(painted: &[String]) -> Vec<String> {
     let from = painted.iter().position(|line| line.contains("nominal") || line.contains("nm ")).expect("a strip");
