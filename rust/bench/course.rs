@@ -2,7 +2,7 @@
 
 use exchange::market::Market;
 use mmdh::raw::{self, Lent, MmdhFeed, BOOK_WORDS, STRIP_WORDS};
-use twin::{Answer, Feed, Phase};
+use twin::{Answer, Feed, Frame, Phase};
 
 pub const BOOKS: usize = 128;
 const SEED: u64 = 0x9E37_79B9_7F4A_7C15;
@@ -19,6 +19,18 @@ pub enum Walker {
 }
 
 pub const WALKERS: [Walker; 3] = [Walker::Library, Walker::Plain, Walker::Tuned];
+
+/// How a course is walked: a call for each message, or one for a frame.
+#[derive(Clone, Copy)]
+pub enum Way {
+    Single,
+    Frames,
+}
+
+pub const WAYS: [Way; 2] = [Way::Single, Way::Frames];
+
+/// Units of a frame.
+pub const FRAME: usize = 32;
 
 /// The words of both tables.
 #[derive(Clone, PartialEq, Eq)]
@@ -56,6 +68,9 @@ pub struct End {
     pub taken: usize,
     tables: Tables,
 }
+
+/// A frame of one of the twins.
+type ArriveFrame = fn(Feed, twin::Tables<'_>, &[u8], u64, u64) -> Frame;
 
 fn market() -> Market {
     let listed: Vec<(u32, i32)> = (0..BOOKS as u32).map(|k| (FIRST_CODE + k, 300 + 777 * k as i32)).collect();
@@ -111,19 +126,56 @@ impl Course {
         self.tables.clone()
     }
 
-    pub fn end(&self, walker: Walker) -> End {
+    pub fn end(&self, walker: Walker, way: Way) -> End {
         let mut tables = self.tables();
-        let taken = self.walk(walker, &mut tables, self.messages);
+        let taken = self.walk(walker, way, &mut tables, self.messages);
         End { taken, tables }
     }
 
-    /// The first messages, one arrival each; how many were taken.
-    pub fn walk(&self, walker: Walker, tables: &mut Tables, messages: usize) -> usize {
-        match walker {
-            Walker::Library => self.walk_library(tables, messages),
-            Walker::Plain => self.walk_plain(tables, messages),
-            Walker::Tuned => self.walk_tuned(tables, messages),
+    /// The first messages; how many were taken.
+    pub fn walk(&self, walker: Walker, way: Way, tables: &mut Tables, messages: usize) -> usize {
+        match (walker, way) {
+            (Walker::Library, Way::Single) => self.walk_library(tables, messages),
+            (Walker::Plain, Way::Single) => self.walk_plain(tables, messages),
+            (Walker::Tuned, Way::Single) => self.walk_tuned(tables, messages),
+            (Walker::Library, Way::Frames) => self.frames_library(tables, messages),
+            (Walker::Plain, Way::Frames) => self.frames_of(twin::arrive_frame, tables, messages),
+            (Walker::Tuned, Way::Frames) => self.frames_of(twin::tuned::arrive_frame, tables, messages),
         }
+    }
+
+    #[inline(never)]
+    fn frames_library(&self, tables: &mut Tables, messages: usize) -> usize {
+        let mut feed = MmdhFeed { phase: 4, next: 1, internal: 0, heard: 0, limit: 1_000, whole: 1, fresh: 1 };
+        let (mut at, mut taken) = (0, 0);
+        while taken < messages {
+            let allowed = FRAME.min(messages - taken) as u64;
+            let frame = raw::arrive_frame(feed, tables.lend(), &self.stream[at..], allowed, 1);
+            if (frame.answer, frame.accepted) != (0, allowed) {
+                return taken;
+            }
+            at += frame.used as usize;
+            taken += allowed as usize;
+            feed = frame.feed;
+        }
+        taken
+    }
+
+    #[inline(never)]
+    fn frames_of(&self, arrive: ArriveFrame, tables: &mut Tables, messages: usize) -> usize {
+        let mut feed = live();
+        let (mut at, mut taken) = (0, 0);
+        while taken < messages {
+            let allowed = FRAME.min(messages - taken) as u64;
+            let frame = arrive(feed, tables.lend_twin(), &self.stream[at..], allowed, 1);
+            if (frame.answer, frame.accepted) != (Answer::Taken, allowed) {
+                return taken;
+            }
+            at += frame.used as usize;
+            taken += allowed as usize;
+            feed = frame.feed;
+        }
+        taken
     }
 
     #[inline(never)]

@@ -1,13 +1,14 @@
 //! Nanoseconds a message: single arrivals through the C calls, against the plain twin and the tuned one.
 //! 128 books, 2 to 4 entries a message, every message fits; all three must end with the same tables.
-//! The same for strip messages of all five types, over 128 strips. And microseconds a repaint of all their sides, by sides at once against single reads.
+//! The same for strip messages of all five types, over 128 strips, and for frames of book messages against single calls. And
+//! microseconds a repaint of all their sides, by sides at once against single reads.
 
 #![forbid(unsafe_code)]
 
 mod course;
 mod repaint;
 
-use course::{Course, Walker, WALKERS};
+use course::{Course, Walker, Way, FRAME, WALKERS, WAYS};
 use std::process::exit;
 use std::time::Instant;
 
@@ -22,25 +23,27 @@ const STRIPS: (usize, usize, usize) = (128, 10_000, 60);
 /// Messages of a course whose instructions are counted; only some of them are walked.
 const COUNTED: usize = 1_500;
 
-/// The best pass of each, in nanoseconds a message, the three taking turns.
-fn measure(course: &Course, passes: usize) -> [f64; 3] {
-    let mut best = [f64::INFINITY; 3];
+/// The best pass of each of the three in each of these ways, in nanoseconds a message, all taking turns.
+fn measure<const N: usize>(course: &Course, ways: [Way; N], passes: usize) -> [[f64; 3]; N] {
+    let mut best = [[f64::INFINITY; 3]; N];
     let start = course.tables();
     let mut tables = course.tables();
     for _ in 0..passes {
-        for (walker, best) in WALKERS.iter().zip(&mut best) {
-            tables.copy(&start);
-            let began = Instant::now();
-            course.walk(*walker, &mut tables, course.messages());
-            *best = best.min(began.elapsed().as_nanos() as f64 / course.messages() as f64);
+        for (way, best) in ways.iter().zip(&mut best) {
+            for (walker, best) in WALKERS.iter().zip(best) {
+                tables.copy(&start);
+                let began = Instant::now();
+                course.walk(*walker, *way, &mut tables, course.messages());
+                *best = best.min(began.elapsed().as_nanos() as f64 / course.messages() as f64);
+            }
         }
     }
     best
 }
 
-/// All three end with the same tables, every message taken.
+/// All three end with the same tables, by single calls and by frames, every message taken.
 fn check(course: &Course) -> Result<(), String> {
-    let ends: Vec<_> = WALKERS.iter().map(|&walker| course.end(walker)).collect();
+    let ends: Vec<_> = WAYS.iter().flat_map(|&way| WALKERS.map(|walker| course.end(walker, way))).collect();
     if ends.iter().any(|end| end.taken != course.messages()) {
         return Err(format!("{} slots: a message was not taken", course.slots()));
     }
@@ -54,12 +57,17 @@ fn short() -> Result<(), String> {
     for (slots, _, _) in COURSES {
         let course = Course::new(slots, 300);
         check(&course)?;
-        println!("{:>5} slots: {} messages, the same tables three times", slots, course.messages());
+        let messages = course.messages();
+        println!("{:>5} slots: {} messages, the same tables three times, and by frames of {}", slots, messages, FRAME);
         println!("{:>5} slots: {} rows, the same by sides and by single reads", slots, repaint::check(&course)?);
     }
     let course = Course::strips(STRIPS.0, 300);
     check(&course)?;
-    println!("{:>5} slots: {} strip messages, the same tables three times", STRIPS.0, course.messages());
+    let messages = course.messages();
+    println!(
+        "{:>5} slots: {} strip messages, the same tables three times, and by frames of {}",
+        STRIPS.0, messages, FRAME
+    );
     Ok(())
 }
 
@@ -72,13 +80,29 @@ fn full() -> Result<(), String> {
     println!("\nnanoseconds a strip message, best of alternating passes");
     println!("slots  library    plain    tuned  library/plain  library/tuned");
     timed(&Course::strips(STRIPS.0, STRIPS.1), STRIPS.2)?;
+    frames()?;
     repaints()
+}
+
+/// Frames of book messages, each time beside its ratio to single calls.
+fn frames() -> Result<(), String> {
+    println!("\nnanoseconds a book message in frames of {}, and frame/single, best of alternating passes", FRAME);
+    println!("slots  library  /single    plain  /single    tuned  /single  library/plain  library/tuned");
+    for (slots, messages, passes) in COURSES {
+        let course = Course::new(slots, messages);
+        check(&course)?;
+        let [single, frame] = measure(&course, WAYS, passes);
+        print!("{:>5}", slots);
+        frame.iter().zip(single).for_each(|(frame, single)| print!(" {:>8.1} {:>8.2}", frame, frame / single));
+        println!(" {:>14.2} {:>14.2}", frame[0] / frame[1], frame[0] / frame[2]);
+    }
+    Ok(())
 }
 
 /// One course, its times and their ratios.
 fn timed(course: &Course, passes: usize) -> Result<(), String> {
     check(course)?;
-    let [library, plain, tuned] = measure(course, passes);
+    let [[library, plain, tuned]] = measure(course, [Way::Single], passes);
     let (slots, ratios) = (course.slots(), (library / plain, library / tuned));
     println!("{:>5} {:>8.1} {:>8.1} {:>8.1} {:>14.2} {:>14.2}", slots, library, plain, tuned, ratios.0, ratios.1);
     Ok(())
@@ -107,7 +131,7 @@ fn count(words: &[String]) -> Result<(), String> {
     };
     match (walker, course, number(2)) {
         (Some(&walker), Some(course), Some(messages)) => {
-            course.walk(walker, &mut course.tables(), COUNTED.min(messages));
+            course.walk(walker, Way::Single, &mut course.tables(), COUNTED.min(messages));
             Ok(())
         }
         _ => Err(USAGE.to_string()),
