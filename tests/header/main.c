@@ -1,5 +1,6 @@
-/* include/mmdh.h as a C program meets it: its version, example 10's three units through the archive, the row and the sides
-   they leave, an emptied book, a strip of every type, the badge and every reason. */
+/* include/mmdh.h as a C program meets it: its version, example 10's three units through the archive, one by one and as a frame,
+   the row and the sides they leave, an emptied book, a strip of every type, the badge and every reason. */
+#include <stddef.h>
 #include <stdio.h>
 #include <string.h>
 
@@ -47,6 +48,10 @@ static void nothing_lent(void) {
     MmdhFeed open = mmdh_connect(mmdh_new(1000).feed, 0, 5).feed;
     MmdhGiven more = mmdh_arrive(open, NULL, 0, NULL, 0, NULL, 0, 6);
     expect("no bytes and no tables: more", more.answer == MMDH_MORE && more.used == 0 && more.feed.phase == MMDH_WAIT_KEY);
+    MmdhFrame none = mmdh_arrive_frame(open, NULL, 0, NULL, 0, NULL, 0, 1, 6);
+    expect("a frame of no bytes on no tables: more", none.answer == MMDH_MORE && none.accepted == 0 && none.used == 0 && memcmp(&none.feed, &open, sizeof open) == 0);
+    none = mmdh_arrive_frame(open, NULL, 0, NULL, 0, NULL, 0, 0, 6);
+    expect("nothing lent and nothing allowed", none.answer == MMDH_TAKEN && none.accepted == 0 && none.used == 0 && memcmp(&none.feed, &open, sizeof open) == 0);
     MmdhGiven cut = mmdh_arrive_cut(open, NULL, 0, NULL, 0, 1, 0, NULL, 0, 6);
     expect("a message of no bytes: wrong size", cut.answer == MMDH_WRONG_SIZE && cut.feed.phase == MMDH_LOST);
     expect("a row of no table", mmdh_read_row(NULL, 0, 700, 0, 1).answer == MMDH_NO_ROW);
@@ -176,6 +181,40 @@ static void strips(void) {
     expect("nothing behind the last strip", table[12] == 0 && table[22] == 0);
 }
 
+/* Three units at once from a feed that waits for the key, as single calls left the tables and the feed. */
+static void frames(MmdhFeed open, const uint8_t *bytes, size_t n, const uint64_t *books, const uint64_t *strip_table, MmdhFeed after) {
+    static uint64_t own[2 * MMDH_BOOK_WORDS + 1], own_strips[MMDH_STRIP_WORDS + 1], clean[2 * MMDH_BOOK_WORDS + 1];
+    static uint8_t line[2 * 4096 + 20];
+    static const MmdhFeed odd = {9, 3, 0, 5000, 0, 7, 2};
+    expect("the layout of a frame", sizeof(MmdhFrame) == 80 && offsetof(MmdhFrame, answer) == 0 && offsetof(MmdhFrame, accepted) == 8 &&
+                                        offsetof(MmdhFrame, used) == 16 && offsetof(MmdhFrame, feed) == 24);
+    own[128] = clean[128] = own_strips[0] = own_strips[12] = 77;
+    MmdhFrame frame = mmdh_arrive_frame(odd, own, 129, own_strips, 13, bytes, n, 0, 4);
+    expect("nothing allowed: 0, and no unit", frame.answer == MMDH_TAKEN && frame.accepted == 0 && frame.used == 0);
+    expect("the feed as it was handed in, odd numbers too", memcmp(&frame.feed, &odd, sizeof odd) == 0);
+    expect("nothing is written", memcmp(own, clean, sizeof own) == 0 && own_strips[0] == 77);
+    frame = mmdh_arrive_frame(odd, own, 129, own_strips, 13, bytes, n, 1, 5000);
+    expect("with one allowed they come back as from mmdh_arrive", frame.answer == MMDH_NOT_OPEN && frame.feed.phase == MMDH_LOST && frame.feed.whole == 1 && frame.feed.fresh == 1);
+
+    frame = mmdh_arrive_frame(open, own, 129, own_strips, 13, bytes, n, 2, 6);
+    expect("two of three", frame.answer == MMDH_TAKEN && frame.accepted == 2 && frame.used == 52 && frame.feed.phase == MMDH_LIVE && frame.feed.next == 3);
+    expect("the third waits", memcmp(own, clean, sizeof own) == 0 && own_strips[0] == 0);
+    frame = mmdh_arrive_frame(open, own, 129, own_strips, 13, bytes, n, UINT64_MAX, 6);
+    expect("all three, then More", frame.answer == MMDH_MORE && frame.accepted == 3 && frame.used == n);
+    expect("the feed of single calls", memcmp(&frame.feed, &after, sizeof after) == 0);
+    expect("the tables of single calls", memcmp(own, books, sizeof own) == 0 && memcmp(own_strips, strip_table, sizeof own_strips) == 0);
+
+    /* the third unit once more, and a heartbeat behind it */
+    memcpy(line, bytes, n);
+    memcpy(line + n, bytes + 52, n - 52);
+    memset(line + n + n - 52, 0, 20);
+    line[n + n - 52] = 20;
+    memset(own, 0, 128 * sizeof own[0]);
+    frame = mmdh_arrive_frame(open, own, 129, own_strips, 13, line, n + n - 52 + 20, 9, 6);
+    expect("a refusal in the middle is not counted", frame.answer == MMDH_NOT_NEXT && frame.accepted == 3 && frame.used == n);
+    expect("it loses the feed, and what stands before it stays", frame.feed.phase == MMDH_LOST && frame.feed.next == 4 && memcmp(own, books, sizeof own) == 0);
+}
+
 int main(int argc, char **argv) {
     static uint64_t table[2 * MMDH_BOOK_WORDS + 1], strip_table[MMDH_STRIP_WORDS + 1];
     static uint8_t bytes[4096];
@@ -199,7 +238,7 @@ int main(int argc, char **argv) {
 
     table[128] = strip_table[0] = strip_table[12] = 77;
     int units = 0;
-    MmdhFeed before = given.feed;
+    MmdhFeed open = given.feed, before = given.feed;
     for (;;) {
         before = given.feed;
         given = mmdh_arrive(given.feed, table, 129, strip_table, 13, bytes + at, n - at, 6);
@@ -224,6 +263,7 @@ int main(int argc, char **argv) {
     expect("an unknown phase is stale", mmdh_badge(7, f.heard, f.limit, 6) == MMDH_STALE);
 
     expect("the bids at once", as_single(table, 129, 700, 0) && mmdh_read_side(table, 129, 700, 0).count == 1);
+    frames(open, bytes, n, table, strip_table, f);
     sides();
     emptied();
     strips();
