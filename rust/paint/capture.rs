@@ -30,14 +30,19 @@ impl Capture {
         self.ends
     }
 
-    /// All units that were sent by a time and not handed out before, with what there is of the last, and when the newest of
-    /// them was sent; nothing where there are none.
+    /// All units that were sent by a time and not handed out before, and when the newest of them was sent; behind them what
+    /// there is of one that is not whole, which tells no time. Nothing where there are none.
     pub fn due(&mut self, time: u64) -> Option<(&[u8], u64)> {
         let from = self.at;
         while let Some(sent) = self.next_sent().filter(|&sent| sent <= time) {
             let rest = &self.bytes[self.at..];
-            self.at += unit_length(rest).min(rest.len());
-            self.time = sent;
+            match whole_length(rest) {
+                Some(length) => {
+                    self.at += length;
+                    self.time = sent;
+                }
+                None => self.at = self.bytes.len(),
+            }
         }
         Some((&self.bytes[from..self.at], self.time)).filter(|(units, _)| !units.is_empty())
     }
@@ -50,7 +55,7 @@ impl Capture {
         let (mut at, mut time) = (0, self.begins);
         while let Some(sent) = self.bytes.get(at..).and_then(sent_at) {
             time = step(time, sent);
-            at += unit_length(&self.bytes[at..]);
+            at += whole_length(&self.bytes[at..]).unwrap_or(self.bytes.len());
         }
         time
     }
@@ -67,12 +72,16 @@ fn step(time: u64, sent: u64) -> u64 {
     sent.clamp(time, time.saturating_add(LONGEST_STEP))
 }
 
-fn unit_length(unit: &[u8]) -> usize {
-    let heartbeat = unit[..2] == [HEADER as u8, 0];
-    match unit.get(HEADER..HEADER + 2) {
-        Some(size) if !heartbeat => HEADER + usize::from(u16::from_le_bytes([size[0], size[1]])),
-        _ => HEADER,
-    }
+/// The length of the first unit, if it is whole.
+fn whole_length(bytes: &[u8]) -> Option<usize> {
+    let length = match bytes.get(..2)? {
+        [20, 0] => HEADER,
+        _ => {
+            let size = bytes.get(HEADER..HEADER + 2)?;
+            HEADER + usize::from(u16::from_le_bytes([size[0], size[1]]))
+        }
+    };
+    Some(length).filter(|&length| length <= bytes.len())
 }
 
 /// Hong Kong's time of day.

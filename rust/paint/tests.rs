@@ -208,6 +208,24 @@ fn a_frame_takes_all_that_was_sent_since_the_one_before() {
     }
 }
 
+/// A unit that has not come whole is handed in, and says nothing of when it was sent: it is not heard.
+#[test]
+fn a_torn_unit_tells_no_time() {
+    let sent = |seq: u32, time: u64| {
+        let mut unit = unit(seq, 0, &message(1105, 4));
+        unit[12..20].copy_from_slice(&(time * 1_000_000).to_le_bytes());
+        unit
+    };
+    let units = [sent(1, 5_000), sent(2, 5_900)].concat();
+    for length in 24..units.len() {
+        let mut capture = Capture::new(units[..length].to_vec());
+        let wanted = if length < 44 { &units[..24] } else { &units[..length] };
+        assert_eq!(capture.due(9_000), Some((wanted, 5_000)), "{} bytes", length);
+        assert_eq!(capture.due(9_000), None);
+    }
+    assert_eq!(Capture::new(units.clone()).due(9_000), Some((&units[..], 5_900)));
+}
+
 /// What stands in a panel's strip.
 fn strip_of(painted: &[String]) -> Vec<String> {
     let from = painted.iter().position(|line| line.contains("nominal") || line.contains("nm ")).expect("a strip");
