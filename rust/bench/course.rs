@@ -147,33 +147,35 @@ impl Course {
     #[inline(never)]
     fn frames_library(&self, tables: &mut Tables, messages: usize) -> usize {
         let mut feed = MmdhFeed { phase: 4, next: 1, internal: 0, heard: 0, limit: 1_000, whole: 1, fresh: 1 };
-        let (mut at, mut taken) = (0, 0);
-        while taken < messages {
-            let allowed = FRAME.min(messages - taken) as u64;
-            let frame = raw::arrive_frame(feed, tables.lend(), &self.stream[at..], allowed, 1);
-            if (frame.answer, frame.accepted) != (0, allowed) {
-                return taken;
-            }
-            at += frame.used as usize;
-            taken += allowed as usize;
+        self.in_frames(messages, |bytes, allowed| {
+            let frame = raw::arrive_frame(feed, tables.lend(), bytes, allowed, 1);
             feed = frame.feed;
-        }
-        taken
+            Some(frame.used).filter(|_| (frame.answer, frame.accepted) == (0, allowed))
+        })
     }
 
     #[inline(never)]
     fn frames_of(&self, arrive: ArriveFrame, tables: &mut Tables, messages: usize) -> usize {
         let mut feed = live();
+        self.in_frames(messages, |bytes, allowed| {
+            let frame = arrive(feed, tables.lend_twin(), bytes, allowed, 1);
+            feed = frame.feed;
+            Some(frame.used).filter(|_| (frame.answer, frame.accepted) == (Answer::Taken, allowed))
+        })
+    }
+
+    /// The first messages by a call for each frame, which tells the bytes used where all that are allowed were taken; how
+    /// many were.
+    #[inline(always)]
+    fn in_frames(&self, messages: usize, mut call: impl FnMut(&[u8], u64) -> Option<u64>) -> usize {
         let (mut at, mut taken) = (0, 0);
         while taken < messages {
-            let allowed = FRAME.min(messages - taken) as u64;
-            let frame = arrive(feed, tables.lend_twin(), &self.stream[at..], allowed, 1);
-            if (frame.answer, frame.accepted) != (Answer::Taken, allowed) {
-                return taken;
+            let allowed = FRAME.min(messages - taken);
+            match call(&self.stream[at..], allowed as u64) {
+                Some(used) => at += used as usize,
+                None => break,
             }
-            at += frame.used as usize;
-            taken += allowed as usize;
-            feed = frame.feed;
+            taken += allowed;
         }
         taken
     }

@@ -36,4 +36,18 @@ impl Dice {
     pub fn of<T: Copy>(&mut self, choices: &[T]) -> T {
         choices[self.place(choices.len())]
     }
+
+    /// These bytes with one of them changed, left out or put in.
+    pub fn damaged(&mut self, bytes: &[u8]) -> Vec<u8> {
+        let mut bytes = bytes.to_vec();
+        let at = self.place(bytes.len());
+        match self.below(3) {
+            0 => bytes[at] = self.any() as u8,
+            1 => {
+                bytes.remove(at);
+            }
+            _ => bytes.insert(at, self.any() as u8),
+        }
+        bytes
+    }
 }

@@ -34,8 +34,8 @@ impl Desk {
         self.capture.ends().saturating_add(self.line.feed().limit()).saturating_add(1)
     }
 
-    /// Everything that has come by this time, in one call at the time of the newest unit. What is refused is the end of it:
-    /// the line says so, and why.
+    /// Everything that has come by this time, in one call at the time of the newest whole unit. What is refused is the end of
+    /// it: the line says so, and why.
     pub fn hear(&mut self, time: u64) {
         if let Some((units, sent)) = self.capture.due(time) {
             let _ = self.line.hear_frame(units, u64::MAX, sent);

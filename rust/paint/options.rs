@@ -20,7 +20,7 @@ paint [FILE] [OPTIONS]   panels of order books from a capture, stepping through 
   --height N      lines to paint in (the terminal's, or 60)
   --help          this text
 
-A frame takes all units that were sent since the one before in one call, at the time of the newest.
+A frame takes all units that were sent since the one before in one call, at the time of the newest whole one.
 A panel without rows says why: 'empty book' is a book that has been emptied, 'no book' a code that has none, 'not sound'
 a book that cannot be read, and 'no book yet' a panel that waits for a code. Under each book is its price strip, where
 there is room for all panels with theirs: nominal (nm) and closing (cl) price, indicative equilibrium price (IEP, ep) and

@@ -14,13 +14,13 @@ use Rattle.feed.specs.Frames.{Framed, framedOf, opened, onward, through, framed
 use Rattle.feed.specs.declared.Feed.{Feed}
 use Rattle.feed.proofs.Laws.{plain-badge}
 use Rattle.feed.proofs.Framing.{walk}
-use Rattle.promises.specs.Runs.{Sizes, start}
-use Rattle.promises.specs.Frames.{stateIn, Act, afterAct, runActs, endActs}
+use Rattle.promises.specs.Runs.{start}
+use Rattle.promises.specs.Frames.{stateIn, afterAct, runActs, endActs}
 use Rattle.promises.proofs.Frames as P
 use Rattle.screen.specs.Plain.{feedOf, plainFeed, PlainOut, PlainFramed, plainFramedOf, plainFramed}
 use Rattle.screen.specs.Calls.{Arrives, plainOpened, framesBack}
 use Rattle.screen.specs.declared.MmdhFeed.{MmdhFeed}
-use Rattle.border.specs.Border.{Held, plainStart}
+use Rattle.border.specs.Border.{Held}
 use Rattle.border.specs.Frames as C
 use Rattle.border.specs.Frames.{plainOnward, plainThrough, PlainAct, Calls, CallsAtOnce, plainAfterAct, plainRunActs, actOf, actsOf}
 use Rattle.border.proofs.Border.{comesBack, plain, same-out, step-is}

@@ -1,29 +1,28 @@
 -- Whole frames, proved: each is named as its statement in specs/Frames, with a small letter. Assumes nothing.
-use Prim.Native.Nat.{ℕ, zero, suc, _+_, _≤_, _<_}
+use Prim.Native.Nat.{ℕ, zero, suc, _+_, _<_}
 use native.Mathlib.Omega.{arith}
 use mathlib.Core.Path.{_≡_, refl, sym, ap, _∙_, subst}
-use mathlib.Core.Bool.{Bool, true, false, cond, not, _&&_, true≢false}
-use mathlib.Core.List.{List, [], _∷_, _++_, append-assoc}
-use lib.ListN.{length, drop}
+use mathlib.Core.Bool.{Bool, true, false, cond, not}
+use mathlib.Core.List.{List, [], _∷_, _++_}
+use lib.ListN.{drop}
 use lib.Seq.{drop-drop}
-use lib.Dec.{T, eqb}
+use lib.Dec.{T}
 use borrow.Author.Tests.{ne-eqb}
 use Rattle.ground.specs.Choice.{oneOf, all}
 use Rattle.ground.proofs.Bools.{split, two, pair}
 use Rattle.wire.specs.Number.{bytesOnly}
 use Rattle.ladder.proofs.Keeps.{bytes-drop}
 use Rattle.feed.specs.Events.{Tables, State, Event, Arrive}
-use Rattle.feed.specs.Answers.{number}
-use Rattle.feed.specs.Steps.{Outcome, accepted, usedOf, stateOf, handed, outcome}
+use Rattle.feed.specs.Steps.{Outcome, accepted, usedOf, handed, outcome}
 use Rattle.feed.specs.Frames.{Framed, framedOf, opened, onward, through, framed}
 use Rattle.feed.specs.declared.Feed.{Feed}
-use Rattle.feed.proofs.Framing.{Well, Ill, walk, onward-counts, onward-ends, through-fits, counted-all, counted-fewer, goes-on, has-ended, Ended, ended, further, through-further}
+use Rattle.feed.proofs.Framing.{Well, Ill, walk, onward-ends, through-fits, counted-all, counted-fewer, goes-on, has-ended, ended, further, through-further}
 use Rattle.promises.specs.Refusals.{answersTo, ending, refusal}
-use Rattle.promises.specs.Runs.{Sizes, zeroed, start, after, run, answerOf, trace, endOf, tale, isGreen, green, replay}
+use Rattle.promises.specs.Runs.{zeroed, start, after, run, answerOf, trace, endOf, tale, isGreen, green, replay}
 use Rattle.promises.specs.Ledger.{lastOf}
 use Rattle.promises.specs.Demands.{Bytes, handsBytes, connects}
 use Rattle.promises.specs.Frames as F
-use Rattle.promises.specs.Frames.{singles, answersIn, acceptedIn, usedIn, told, stateIn, restOf, joined, refusedAfter, Act, One, AtOnce, afterAct, runActs, eventsOf, written, actsBytes}
+use Rattle.promises.specs.Frames.{singles, answersIn, acceptedIn, usedIn, stateIn, restOf, joined, refusedAfter, Act, One, AtOnce, afterAct, runActs, eventsOf, written, actsBytes}
 use Rattle.promises.proofs.Demands as D
 use Rattle.promises.proofs.Morning.{run-append, lostStaysDark}
 

@@ -15,7 +15,7 @@ use Rattle.promises.specs.Checks.{Check, sameFeed, sameWords}
 use Rattle.promises.specs.Build.{unit, heartbeat, message, sendKey, logon, logout, refresh, complete, entry, bookMessage, joined as together, feed, both}
 use Rattle.promises.specs.Answering.{fed, held, taken, fits, misfits, unlisted, both as twoBids}
 use Rattle.promises.specs.Strips.{nominal, strip, word, free}
-use Rattle.promises.specs.Runs.{History, start, isGreen, history}
+use Rattle.promises.specs.Runs.{start, isGreen, history}
 use Rattle.promises.specs.Frames.{stateIn, restOf, joined, singles, Act, One, AtOnce, endActs, allOf}
 use Rattle.promises.specs.Mornings.{wordsOfOne}
 

@@ -260,15 +260,7 @@ fn damaged_lines_end_in_a_frame_as_they_do_by_pieces() {
     let mut dice = Dice::new(78);
     let mut met = std::collections::BTreeSet::new();
     for _ in 0..200 {
-        let mut stream = morning[..40_000].to_vec();
-        let at = dice.place(stream.len());
-        match dice.below(3) {
-            0 => stream[at] = dice.any() as u8,
-            1 => {
-                stream.remove(at);
-            }
-            _ => stream.insert(at, dice.any() as u8),
-        }
+        let stream = dice.damaged(&morning[..40_000]);
         let (mut line, mut by_pieces) = (connected(7), connected(7));
         let ended = line.hear_frame(&stream, u64::MAX, 8);
         assert_eq!(ended, by_pieces.hear(&stream, 8));

@@ -79,15 +79,7 @@ fn damaged_streams_end_alike_in_any_pieces() {
     let mut dice = Dice::new(77);
     let mut met = std::collections::BTreeSet::new();
     for _ in 0..300 {
-        let mut stream = morning[..60_000].to_vec();
-        let at = dice.place(stream.len());
-        match dice.below(3) {
-            0 => stream[at] = dice.any() as u8,
-            1 => {
-                stream.remove(at);
-            }
-            _ => stream.insert(at, dice.any() as u8),
-        }
+        let stream = dice.damaged(&morning[..60_000]);
         let (whole_first, whole) = followed(&stream, usize::MAX, &mut dice);
         let (first, line) = followed(&stream, 3_000, &mut dice);
         assert_eq!((first, line.feed(), line.units()), (whole_first, whole.feed(), whole.units()));
