@@ -4,7 +4,7 @@ use native.Mathlib.Omega.{arith}
 use mathlib.Core.Path.{_≡_, refl, sym, ap, _∙_, subst}
 use mathlib.Core.Bool.{Bool, true, false, cond, not}
 use mathlib.Core.List.{List, [], _∷_, _++_}
-use lib.ListN.{drop}
+use lib.ListN.{length, drop}
 use lib.Seq.{drop-drop}
 use lib.Dec.{T}
 use borrow.Author.Tests.{ne-eqb}
@@ -19,12 +19,14 @@ use Rattle.feed.specs.declared.Feed.{Feed}
 use Rattle.feed.proofs.Framing.{Well, Ill, walk, onward-ends, through-fits, counted-all, counted-fewer, goes-on, has-ended, ended, further, through-further}
 use Rattle.promises.specs.Refusals.{answersTo, ending, refusal}
 use Rattle.promises.specs.Runs.{zeroed, start, after, run, answerOf, trace, endOf, tale, isGreen, green, replay}
-use Rattle.promises.specs.Ledger.{lastOf}
+use Rattle.promises.specs.Ledger.{upTo, lastOf}
+use Rattle.promises.specs.NoHole.{kept}
 use Rattle.promises.specs.Demands.{Bytes, handsBytes, connects}
 use Rattle.promises.specs.Frames as F
 use Rattle.promises.specs.Frames.{singles, answersIn, acceptedIn, usedIn, stateIn, restOf, joined, refusedAfter, Act, One, AtOnce, afterAct, runActs, eventsOf, written, actsBytes}
 use Rattle.promises.proofs.Demands as D
 use Rattle.promises.proofs.Morning.{run-append, lostStaysDark}
+use Rattle.promises.proofs.NoHole.{noneLeftOut}
 
 -- where a frame begins
 abbrev begun : State → Framed
@@ -245,6 +247,14 @@ writtenOut s (a ∷ acts) =
 
 pub withFrames : F.WithFrames
 withFrames limit n P h acts = rw (writtenOut (start limit n) acts) (h (written (start limit n) acts))
+
+pub framesNoneLeftOut : F.FramesNoneLeftOut
+framesNoneLeftOut limit n acts time =
+    withFrames limit n
+    (λ es s. isGreen s time ≡ true
+    → (kept limit n es .came ≡ kept limit n es .met)
+    × (kept limit n es .met ≡ upTo (length (kept limit n es .met))))
+    (λ es. noneLeftOut limit n es time) acts
 
 pub framesReplayed : F.FramesReplayed
 framesReplayed limit n = withFrames limit n (λ es s. s .tables ≡ replay (tale limit n es .deeds) (zeroed n)) (D.replayed limit n)

@@ -18,7 +18,8 @@ use Rattle.feed.specs.Steps.{accepted, usedOf, stateOf, outcome}
 use Rattle.feed.specs.Frames.{Framed, framedOf, framed}
 use Rattle.promises.specs.Refusals.{answersTo, ending, feedRefused}
 use Rattle.promises.specs.Runs.{Sizes, zeroed, start, after, run, answerOf, trace, endOf, tale, isGreen, green, replay}
-use Rattle.promises.specs.Ledger.{lastOf}
+use Rattle.promises.specs.Ledger.{upTo, lastOf}
+use Rattle.promises.specs.NoHole.{kept}
 use Rattle.promises.specs.Demands.{handsBytes, Bytes, connects}
 
 -- "single calls at the same time", each at the bytes that the one before left, up to one that is not accepted: a frame written out
@@ -151,13 +152,21 @@ actsBytes (AtOnce bytes allowed time) = bytesOnly bytes
 abbrev pub WrittenBytes : Type 0
 WrittenBytes = (s : State) (acts : List Act) → T (all actsBytes acts) → Bytes (written s acts)
 
--- for instance demand 3: the tables are the replay, the badge is green exactly when the history says so, and sides and strips are sound
+-- for instance: where a run with frames ends, and the events that it is
 abbrev pub endActs : ℕ → Sizes → List Act → State
 endActs limit n acts = runActs (start limit n) acts
 
 abbrev pub allOf : ℕ → Sizes → List Act → List Event
 allOf limit n acts = written (start limit n) acts
 
+-- DEMAND 2 with frames: while the badge is green, every counted message that came since the connect has been met, in its order, none left out
+abbrev pub FramesNoneLeftOut : Type 0
+FramesNoneLeftOut =
+    (limit : ℕ) (n : Sizes) (acts : List Act) (time : ℕ) → isGreen (endActs limit n acts) time ≡ true
+    → (kept limit n (allOf limit n acts) .came ≡ kept limit n (allOf limit n acts) .met)
+    × (kept limit n (allOf limit n acts) .met ≡ upTo (length (kept limit n (allOf limit n acts) .met)))
+
+-- DEMAND 3 with frames: the tables are the replay, the badge is green exactly when the history says so, and sides and strips are sound
 abbrev pub FramesReplayed : Type 0
 FramesReplayed = (limit : ℕ) (n : Sizes) (acts : List Act) → endActs limit n acts .tables ≡ replay (tale limit n (allOf limit n acts) .deeds) (zeroed n)
 
