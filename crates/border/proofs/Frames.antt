@@ -2,7 +2,7 @@
 use Prim.Native.Nat.{ℕ, zero, suc, _+_}
 use native.Mathlib.Omega.{arith}
 use mathlib.Core.Path.{_≡_, refl, sym, ap, _∙_}
-use mathlib.Core.Bool.{Bool, true, false, cond}
+use mathlib.Core.Bool.{cond}
 use mathlib.Core.List.{List, [], _∷_}
 use lib.ListN.{drop}
 use lib.Dec.{eqb}
@@ -56,13 +56,11 @@ through-is bytes time =
 pub frameIsLoop : C.FrameIsLoop
 unfolding framesBack plainThrough through
 frameIsLoop f x bytes zero time = refl
-frameIsLoop f x bytes (suc k) time = rw (ne-eqb (suc k) 0 (λ z. let w : ⊥ = omega (arith, z) in w), first-is bytes time f x) (go (accepted (onward bytes time (framedOf (opened (feedOf f)) x) .frame .answer)))
-  where
-    go : (b : Bool)
-        → plainFramed (cond b (through k bytes time (onward bytes time (framedOf (opened (feedOf f)) x))) (onward bytes time (framedOf (opened (feedOf f)) x)))
-        ≡ cond b (plainThrough k bytes time (plainFramed (onward bytes time (framedOf (opened (feedOf f)) x)))) (plainFramed (onward bytes time (framedOf (opened (feedOf f)) x)))
-    go true = sym (through-is bytes time k (onward bytes time (framedOf (opened (feedOf f)) x)))
-    go false = refl
+frameIsLoop f x bytes (suc k) time =
+    let begun : Framed = framedOf (opened (feedOf f)) x in
+    let same : plainOnward bytes time (plainFramedOf (plainOpened f) x) ≡ plainOnward bytes time (plainFramed begun) =
+    first-is bytes time f x ∙ sym (onward-is bytes time begun) in
+    rw (ne-eqb (suc k) 0 (λ z. let w : ⊥ = omega (arith, z) in w), same) (sym (through-is bytes time (suc k) begun))
 
 -- a frame of a feed's own numbers is the feed's frame
 frame-is : (s : State) (bytes : List ℕ) (allowed time : ℕ) → framesBack (plainFeed (s .feed)) (s .tables) bytes allowed time ≡ plainFramed (framed s bytes allowed time)

@@ -7,7 +7,7 @@ use lib.ListN.{drop}
 use Rattle.feed.specs.Events.{Tables}
 use Rattle.feed.specs.Steps.{accepted}
 use Rattle.promises.specs.Runs.{Sizes, zeroed, tale, green, replay}
-use Rattle.promises.specs.Frames.{Act, One, AtOnce, endActs, allOf}
+use Rattle.promises.specs.Frames.{Act, One, AtOnce, endActs, writtenActs}
 use Rattle.screen.specs.Plain.{plainFeed, PlainOut, PlainFramed, plainFramedOf}
 use Rattle.screen.specs.Calls.{Call, eventOf, Arrives, handsBack, plainOpened, framesBack}
 use Rattle.screen.specs.declared.MmdhFeed.{MmdhFeed}
@@ -70,10 +70,10 @@ IsRunActs =
 abbrev pub PlainFramesReplayed : Type 0
 PlainFramesReplayed =
     (limit : ℕ) (n : Sizes) (acts : List PlainAct)
-    → plainRunActs (plainStart limit n) acts .tables ≡ replay (tale limit n (allOf limit n (actsOf acts)) .deeds) (zeroed n)
+    → plainRunActs (plainStart limit n) acts .tables ≡ replay (tale limit n (writtenActs limit n (actsOf acts)) .deeds) (zeroed n)
 
 abbrev pub PlainFramesGreen : Type 0
 PlainFramesGreen =
     (limit : ℕ) (n : Sizes) (acts : List PlainAct) (time : ℕ)
     → saysGreen (plainRunActs (plainStart limit n) acts) time
-    ≡ green (tale limit n (allOf limit n (actsOf acts))) (plainStart limit n .feed .limit) time
+    ≡ green (tale limit n (writtenActs limit n (actsOf acts))) (plainStart limit n .feed .limit) time

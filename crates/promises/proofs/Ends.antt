@@ -1,14 +1,14 @@
 -- The program ends in 3 or 11 to 17 (specs/Decisions, 103). Assumes nothing.
-use Prim.Native.Nat.{ℕ, zero, suc, _+_, _-_, _≤_, _<_}
+use Prim.Native.Nat.{ℕ, zero, suc, _+_, _≤_, _<_}
 use native.Mathlib.Nat.{not-suc-le-zero}
 use native.Mathlib.Omega.{arith}
 use mathlib.Core.Path.{_≡_, refl, sym, ap, subst, _∙_}
-use mathlib.Core.Bool.{Bool, true, false, cond, not, _&&_, true≢false}
+use mathlib.Core.Bool.{Bool, true, false, cond, not, true≢false}
 use mathlib.Core.List.{List, [], _∷_, _++_}
 use lib.ListN.{length, take, drop, length-take, length-drop}
 use lib.Dec.{T, eqb}
 use Rattle.ground.specs.Choice.{oneOf, first, all}
-use Rattle.ground.proofs.Bools.{of-T, is-T}
+use Rattle.ground.proofs.Bools.{of-T, is-T, pair}
 use Rattle.ground.proofs.Choices.{first-may, each-has}
 use Rattle.wire.specs.Number.{bytesOnly}
 use Rattle.ladder.proofs.Orders.{all-take, all-drop}
@@ -30,6 +30,7 @@ use Rattle.promises.specs.Demands.{handsBytes, Bytes}
 use Rattle.promises.specs.Decisions as C
 use Rattle.promises.proofs.Refused as F
 use Rattle.promises.proofs.Steps.{isNot}
+use Rattle.promises.proofs.Soundness.{bytes-two}
 use Rattle.promises.proofs.Morning.{never18, run-append}
 
 -- a call at time 0 on a feed last heard at 0 is not before it: 10 is not given
@@ -68,16 +69,6 @@ ending s bytes time =
     (λ f a b. absurd (a refl), (yes 11 tt, (yes 3 tt, (yes 12 tt, (yes 13 tt, (yes 14 tt, (no 1 refl, (yes 15 tt, (λ f a b. absurd (b refl), (yes 17 tt, (yes 16 tt, (no 2 refl, (no 0 refl, tt)))))))))))))
     (outcome s (Arrive bytes time) .given .answer) (F.answer-listed s (Arrive bytes time))
 
--- one event more
-more-bytes : (es : List Event) (e : Event) → Bytes es → T (handsBytes e) → Bytes (es ++ (e ∷ []))
-unfolding all
-more-bytes [] e h t = rw (of-T (handsBytes e) t) tt
-more-bytes (d ∷ es) e h t = go (handsBytes d) h (λ k. more-bytes es e k t)
-  where
-    go : (b : Bool) → T (b && all handsBytes es) → (Bytes es → Bytes (es ++ (e ∷ []))) → T (b && all handsBytes (es ++ (e ∷ [])))
-    go true h k = k h
-    go false h k = absurd h
-
 -- the words that the program lends
 abbrev words : Sizes
 words = record { books = tableWords; strips = stripWords }
@@ -93,10 +84,10 @@ module _ (x : State) (es : List Event) (st : Stands es x) (part : List ℕ) (hp 
   e = Arrive part 0
 
   goes-on : Stands (es ++ (e ∷ [])) (after x e)
-  unfolding run handsBytes timeOf
+  unfolding run all handsBytes timeOf
   goes-on = record {
     is = rw (run-append es (e ∷ []) (start 1000 words)) (ap (λ (y : State). after y e) (st .is));
-    bytes = more-bytes es e (st .bytes) hp;
+    bytes = bytes-two es (e ∷ []) (st .bytes) (pair (bytesOnly part) true hp tt);
     heard = heard-by (λ (k : ℕ). k ≡ 0) x e (st .heard) refl;
   }
 

@@ -25,6 +25,7 @@ use Rattle.promises.specs.Demands.{Bytes, handsBytes, connects}
 use Rattle.promises.specs.Frames as F
 use Rattle.promises.specs.Frames.{singles, answersIn, acceptedIn, usedIn, stateIn, restOf, joined, refusedAfter, Act, One, AtOnce, afterAct, runActs, eventsOf, written, actsBytes}
 use Rattle.promises.proofs.Demands as D
+use Rattle.promises.proofs.Soundness.{bytes-two}
 use Rattle.promises.proofs.Morning.{run-append, lostStaysDark}
 use Rattle.promises.proofs.NoHole.{noneLeftOut}
 
@@ -263,11 +264,6 @@ pub framesGreen : F.FramesGreen
 framesGreen limit n acts time =
     withFrames limit n (λ es s. isGreen s time ≡ green (tale limit n es) (start limit n .feed .limit) time) (λ es. D.green limit n es time) acts
 
-all-two : (test : Event → Bool) (es fs : List Event) → T (all test es) → T (all test fs) → T (all test (es ++ fs))
-unfolding all
-all-two test [] fs p q = q
-all-two test (e ∷ es) fs p q = let h = two (test e) (all test es) p in pair (test e) (all test (es ++ fs)) (h .0) (all-two test es fs (h .1) q)
-
 singles-bytes : (k : ℕ) (bytes : List ℕ) (time : ℕ) (s : State) → T (bytesOnly bytes) → Bytes (singles k bytes time s)
 unfolding singles all handsBytes
 singles-bytes zero bytes time s h = tt
@@ -288,7 +284,7 @@ unfolding written all
 writtenBytes s [] h = tt
 writtenBytes s (a ∷ acts) h =
     let p = two (actsBytes a) (all actsBytes acts) h in
-    all-two handsBytes (eventsOf s a) (written (afterAct s a) acts) (act-bytes s a (p .0)) (writtenBytes (afterAct s a) acts (p .1))
+    bytes-two (eventsOf s a) (written (afterAct s a) acts) (act-bytes s a (p .0)) (writtenBytes (afterAct s a) acts (p .1))
 
 pub framesSound : F.FramesSound
 framesSound limit n acts h =
@@ -315,16 +311,6 @@ unfolding lastOf answersIn trace oneOf
 last-single [] s h = absurd h
 last-single (e ∷ es) s h = last-of es e s
 
--- an event behind others, and events behind it
-one-more : (s : State) (es : List Event) (e : Event) → after (run s es) e ≡ run s (es ++ (e ∷ []))
-unfolding run
-one-more s [] e = refl
-one-more s (d ∷ es) e = one-more (after s d) es e
-
-run-on : (es : List Event) (e : Event) (fs : List Event) (s : State) → run s (es ++ (e ∷ fs)) ≡ run (after (run s es) e) fs
-unfolding run
-run-on es e fs s = run-append es (e ∷ fs) s
-
 runs-on : (acts more : List Act) (s : State) → runActs s (acts ++ more) ≡ runActs (runActs s acts) more
 unfolding runActs
 runs-on [] more s = refl
@@ -338,6 +324,7 @@ ends-on acts bytes allowed moment more s =
     runs-on acts (AtOnce bytes allowed moment ∷ more) s ∙ writtenOut (stateIn (framed (runActs s acts) bytes allowed moment)) more
 
 pub frameStaysDark : F.FrameStaysDark
+unfolding run
 frameStaysDark limit n acts bytes allowed moment more time h c =
     let s : State = runActs (start limit n) acts in
     let lost : Framed = framed s bytes allowed moment in
@@ -350,7 +337,7 @@ frameStaysDark limit n acts bytes allowed moment more time h c =
     run-append before (r .others) (start limit n) ∙ ap (λ (t : State). run t (r .others)) (sym (writtenOut (start limit n) acts)) in
     let gone : after (endOf limit n (before ++ r .others)) (r .event) ≡ stateIn lost =
     ap (λ (t : State). after t (r .event)) there
-    ∙ one-more s (r .others) (r .event)
+    ∙ sym (run-append (r .others) (r .event ∷ []) s)
     ∙ ap (run s) (sym (r .parts))
     ∙ sym (at-once s bytes allowed moment) in
     let fails : T (oneOf (answerOf (endOf limit n (before ++ r .others)) (r .event)) ending) =
@@ -360,5 +347,5 @@ frameStaysDark limit n acts bytes allowed moment more time h c =
     let same : runActs (start limit n) (acts ++ (AtOnce bytes allowed moment ∷ more)) ≡ endOf limit n ((before ++ r .others) ++ (r .event ∷ rest)) =
     ends-on acts bytes allowed moment more (start limit n)
     ∙ ap (λ (t : State). run t rest) (sym gone)
-    ∙ sym (run-on (before ++ r .others) (r .event) rest (start limit n)) in
+    ∙ sym (run-append (before ++ r .others) (r .event ∷ rest) (start limit n)) in
     ap (λ (t : State). isGreen t time) same ∙ lostStaysDark limit n (before ++ r .others) (r .event) rest time fails none

@@ -6,7 +6,7 @@ use mathlib.Core.List.{List, [], _∷_, _++_}
 use lib.Dec.{T}
 use lib.ListN.{drop, replicate}
 use Rattle.ground.specs.Choice.{all}
-use Rattle.ground.proofs.Bools.{of-T, is-T, two}
+use Rattle.ground.proofs.Bools.{of-T, is-T, two, pair}
 use Rattle.wire.specs.Number.{bytesOnly}
 use Rattle.wire.specs.Units.{unitOf}
 use Rattle.wire.specs.declared.Unit.{Unit}
@@ -120,6 +120,14 @@ bytes-each [] h = tt
 bytes-each (e ∷ es) h =
     let p = two (handsBytes e) (all handsBytes es) h in
     (bytes-news e (p .0), bytes-each es (p .1))
+
+-- events behind others
+pub bytes-two : (es fs : List Event) → Bytes es → Bytes fs → Bytes (es ++ fs)
+unfolding all
+bytes-two [] fs h k = k
+bytes-two (e ∷ es) fs h k =
+    let p = two (handsBytes e) (all handsBytes es) h in
+    pair (handsBytes e) (all handsBytes (es ++ fs)) (p .0) (bytes-two es fs (p .1) k)
 
 zeros-cleared : (n : ℕ) → replicate n 0 ≡ clearedIn books (replicate n 0)
 zeros-cleared n = sym (clear-ours books n (replicate n 0) (ours-start books n))

@@ -156,24 +156,24 @@ WrittenBytes = (s : State) (acts : List Act) → T (all actsBytes acts) → Byte
 abbrev pub endActs : ℕ → Sizes → List Act → State
 endActs limit n acts = runActs (start limit n) acts
 
-abbrev pub allOf : ℕ → Sizes → List Act → List Event
-allOf limit n acts = written (start limit n) acts
+abbrev pub writtenActs : ℕ → Sizes → List Act → List Event
+writtenActs limit n acts = written (start limit n) acts
 
 -- DEMAND 2 with frames: while the badge is green, every counted message that came since the connect has been met, in its order, none left out
 abbrev pub FramesNoneLeftOut : Type 0
 FramesNoneLeftOut =
     (limit : ℕ) (n : Sizes) (acts : List Act) (time : ℕ) → isGreen (endActs limit n acts) time ≡ true
-    → (kept limit n (allOf limit n acts) .came ≡ kept limit n (allOf limit n acts) .met)
-    × (kept limit n (allOf limit n acts) .met ≡ upTo (length (kept limit n (allOf limit n acts) .met)))
+    → (kept limit n (writtenActs limit n acts) .came ≡ kept limit n (writtenActs limit n acts) .met)
+    × (kept limit n (writtenActs limit n acts) .met ≡ upTo (length (kept limit n (writtenActs limit n acts) .met)))
 
 -- DEMAND 3 with frames: the tables are the replay, the badge is green exactly when the history says so, and sides and strips are sound
 abbrev pub FramesReplayed : Type 0
-FramesReplayed = (limit : ℕ) (n : Sizes) (acts : List Act) → endActs limit n acts .tables ≡ replay (tale limit n (allOf limit n acts) .deeds) (zeroed n)
+FramesReplayed = (limit : ℕ) (n : Sizes) (acts : List Act) → endActs limit n acts .tables ≡ replay (tale limit n (writtenActs limit n acts) .deeds) (zeroed n)
 
 abbrev pub FramesGreen : Type 0
 FramesGreen =
     (limit : ℕ) (n : Sizes) (acts : List Act) (time : ℕ)
-    → isGreen (endActs limit n acts) time ≡ green (tale limit n (allOf limit n acts)) (start limit n .feed .limit) time
+    → isGreen (endActs limit n acts) time ≡ green (tale limit n (writtenActs limit n acts)) (start limit n .feed .limit) time
 
 abbrev pub FramesSound : Type 0
 FramesSound =

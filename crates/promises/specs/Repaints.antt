@@ -7,16 +7,15 @@ use lib.ListN.{length, take, drop, replicate, set}
 use lib.Dec.{eqb}
 use Rattle.feed.specs.Events.{Event, Connect, Arrive}
 use Rattle.feed.specs.Frames.{Framed, framed}
-use Rattle.feed.specs.declared.Phase.{Phase}
 use Rattle.feed.specs.declared.Phase.the-variants.{Idle, WaitKey, WaitLogon, Refreshing, Live, Lost, Closed}
 use Rattle.feed.specs.declared.Feed.{Feed}
 use Rattle.feed.specs.declared.Link.the-variants.{Fresh}
 use Rattle.promises.specs.Checks.{Check, sameFeed, sameWords}
 use Rattle.promises.specs.Build.{unit, heartbeat, message, sendKey, logon, logout, refresh, complete, entry, bookMessage, joined as together, feed, both}
-use Rattle.promises.specs.Answering.{fed, held, taken, fits, misfits, unlisted, both as twoBids}
+use Rattle.promises.specs.Answering.{fed, held, fits, misfits, unlisted, both as twoBids}
 use Rattle.promises.specs.Strips.{nominal, strip, word, free}
 use Rattle.promises.specs.Runs.{start, isGreen, history}
-use Rattle.promises.specs.Frames.{stateIn, restOf, joined, singles, Act, One, AtOnce, endActs, allOf}
+use Rattle.promises.specs.Frames.{stateIn, restOf, joined, singles, Act, One, AtOnce, endActs, writtenActs}
 use Rattle.promises.specs.Mornings.{wordsOfOne}
 
 -- what a frame must hand back: the last answer, the units accepted, the bytes used, the feed; and every word of both tables
@@ -205,8 +204,8 @@ after name acts time green heard events = record {
   name = name;
   holds =
       Bool·beq (isGreen (endActs 1000 wordsOfOne (opening ++ acts)) time) green
-      && eqb (history (start 1000 wordsOfOne) (allOf 1000 wordsOfOne (opening ++ acts)) .heard) heard
-      && eqb (length (allOf 1000 wordsOfOne (opening ++ acts))) events;
+      && eqb (history (start 1000 wordsOfOne) (writtenActs 1000 wordsOfOne (opening ++ acts)) .heard) heard
+      && eqb (length (writtenActs 1000 wordsOfOne (opening ++ acts))) events;
 }
 
 unfoldable pub mornings : List Check
