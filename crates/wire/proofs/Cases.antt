@@ -85,6 +85,22 @@ four-bytes s at a b c d p h q k r l t m =
     let z : at + 2 + 1 ≡ at + 3 = omega arith in
     (rw (y, z, ← p, ← q, ← r, ← t) (omega arith), omega arith)
 
+-- eight bytes, straight out
+pub eight-bytes : (s : List ℕ) (at a b c d e f g h r : ℕ)
+    → r ≡ a + 256 * b + 65536 * c + 16777216 * d + 4294967296 * e + 1099511627776 * f + 281474976710656 * g + 72057594037927936 * h
+    → a ≡ getD s at 0 → a < 256 → b ≡ getD s (at + 1) 0 → b < 256 → c ≡ getD s (at + 2) 0 → c < 256 → d ≡ getD s (at + 3) 0 → d < 256
+    → e ≡ getD s (at + 4) 0 → e < 256 → f ≡ getD s (at + 5) 0 → f < 256 → g ≡ getD s (at + 6) 0 → g < 256 → h ≡ getD s (at + 7) 0 → h < 256
+    → (r ≡ field at 8 s) × (r < 18446744073709551616)
+unfolding field
+eight-bytes s at a b c d e f g h r sum a₀ a₁ b₀ b₁ c₀ c₁ d₀ d₁ e₀ e₁ f₀ f₁ g₀ g₁ h₀ h₁ =
+    let two : at + 1 + 1 ≡ at + 2 = omega arith in
+    let three : at + 2 + 1 ≡ at + 3 = omega arith in
+    let four : at + 3 + 1 ≡ at + 4 = omega arith in
+    let five : at + 4 + 1 ≡ at + 5 = omega arith in
+    let six : at + 5 + 1 ≡ at + 6 = omega arith in
+    let seven : at + 6 + 1 ≡ at + 7 = omega arith in
+    (rw (two, three, four, five, six, seven, ← a₀, ← b₀, ← c₀, ← d₀, ← e₀, ← f₀, ← g₀, ← h₀) (omega arith), omega arith)
+
 -- a number of which not all bytes are there, and one of which none is
 pub cut-is : (s : List ℕ) (at n r : ℕ) → at < length s → length s - at < n → r ≡ field at (length s - at) s → r ≡ field at n s
 cut-is s at n r a h f = f ∙ sym (field-clip at n (length s - at) s (omega arith) (omega arith))

@@ -105,7 +105,22 @@ pub fn u64_in(s: &[u8], at: usize) -> u64
     requires { ⌜ at + 8 ≤ length (now s) ⌝ }
     ensures { λ r. ⌜ (r ≡ field at 8 (now (s .entry))) × (r < 18446744073709551616) ⌝ }
 {
-    number_in(s, at, 8)
+    let a = wide(s[at]);
+    let b = wide(s[at + 1]);
+    let c = wide(s[at + 2]);
+    let d = wide(s[at + 3]);
+    let e = wide(s[at + 4]);
+    let f = wide(s[at + 5]);
+    let g = wide(s[at + 6]);
+    let h = wide(s[at + 7]);
+    a
+        + 256 * b
+        + 65536 * c
+        + 16777216 * d
+        + 4294967296 * e
+        + 1099511627776 * f
+        + 281474976710656 * g
+        + 72057594037927936 * h
 }
 
 // The number in the byte at a place; a byte beyond the end counts as 0.
