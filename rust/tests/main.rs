@@ -1,4 +1,5 @@
-//! The library against the twin, call by call; the vectors, document 01's examples, emptied books, price strips and frames.
+//! The library against the twin, call by call; the vectors, document 01's examples, quantities, emptied books, price strips
+//! and frames.
 //! The last line is 'N passed, M failed'.
 
 #![forbid(unsafe_code)]
@@ -11,6 +12,7 @@ mod grids;
 mod history;
 mod pair;
 mod program;
+mod quantities;
 mod runs;
 mod scene;
 mod sides;
@@ -68,6 +70,7 @@ fn main() {
     let inputs = program::check_vectors(&mut pair.tally, Path::new(&options.vectors));
     program::check_damaged(&mut pair.tally, &mut dice, &inputs, options.rounds / 2_000);
     examples::check(&mut pair);
+    quantities::check(&mut pair);
     emptied::check(&mut pair, &mut dice, options.rounds / 100);
     strips::check(&mut pair, &mut dice, options.rounds / 100);
     frames::check(&mut pair);

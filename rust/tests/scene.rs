@@ -358,7 +358,7 @@ fn entry(dice: &mut Dice, sides: &mut [Vec<u32>; 2]) -> Entry {
     };
     follow(sides, side, action, at, price);
     let mut entry = Entry {
-        quantity: dice.of(&[0, 1, 4_000, u64::MAX]),
+        quantity: quantity(dice),
         price: (price ^ 0x8000_0000) as i32,
         orders: dice.of(&[0, 1, 2, u32::MAX]),
         side: side as u16,
