@@ -7,16 +7,16 @@ use crate::scene::{SLOT, STRIP};
 use crate::tables::Tables;
 use crate::told::{self, LIVE, OPEN, TAIL, TIME};
 use exchange::{book_message, equilibrium, imbalance, unit, Entry};
+use mmdh::raw::ROWS;
 
-/// The rows of a full side, and the first one's price.
-const ROWS: usize = 10;
+/// The price of the first row, and of a strip.
 const BEST: i32 = 0x1413_1211;
 
 /// Beside the quantity that is looked at: those of the other entries, and filler.
 const OTHER: u64 = 0x5B5B_5B5B_5B5B_5B5B;
 const FILLER: u8 = 0x5A;
 
-/// Type 53, 41 and 56, in Live and in Refreshing, already cut, and behind other bytes.
+/// Each in every entry of a book message and in both messages of a strip that have one.
 pub fn check(pair: &mut Pair) {
     pair.tally.part("quantities at the ends of their 8 bytes: every entry of a book message, types 41 and 56");
     for (bytes, number) in ends() {
@@ -64,7 +64,7 @@ fn in_strip(pair: &mut Pair, bytes: [u8; 8], number: u64) {
     surplus[9] = FILLER;
     surplus[10..18].copy_from_slice(&bytes);
     surplus[18..20].fill(FILLER);
-    // the flags and values 1 and 2, 6 and 7
+    // the flags that it sets, the word before its quantity's, and what that is
     let cases = [(volume, 0b110, 3, (1 << 31) + BEST as u64), (surplus, 0b1100_0000, 8, u64::from(b'S'))];
     for (message, flags, first, word) in cases {
         let mut strip = vec![0; STRIP];
