@@ -29,7 +29,7 @@ use std::process::exit;
 use std::thread;
 
 const SEED: u64 = 0x0DD1_07C0_FFEE_D001;
-const ROUNDS: u64 = 1_200_000;
+const ROUNDS: u64 = 1_600_000;
 const USAGE: &str = "tests [--seed N] [--rounds N] [--vectors FOLDER]";
 
 struct Options {
