@@ -1,7 +1,7 @@
 -- What an arrival comes to when bytes follow, and when it is answered 3 or accepted. Assumes nothing.
 use Prim.Native.Nat.{ℕ, zero, suc, _+_, _≤_}
 use mathlib.Core.Path.{_≡_, refl, ap, sym, subst, _∙_}
-use mathlib.Core.Bool.{Bool, true, false, not}
+use mathlib.Core.Bool.{Bool, true, false, cond, not}
 use mathlib.Core.List.{List, [], _∷_, _++_}
 use native.Mathlib.Omega.{arith}
 use lib.ListN.{length, take, drop}
@@ -13,10 +13,10 @@ use Rattle.wire.specs.declared.Unit.the-variants as unit
 use Rattle.ground.proofs.Choices.{first-may}
 use Rattle.wire.proofs.Fronts.{unit-fits, unit-stays}
 use Rattle.feed.specs.Feeds.{deaf}
-use Rattle.feed.specs.Events.{Tables, State, Arrive, timeOf, News, Linked, More, Heartbeat, Message, cutFrom, news, onMessage, newsSize, offered}
+use Rattle.feed.specs.Events.{Tables, State, Arrive, Overrun, timeOf, News, Linked, More, Heartbeat, TooLong, Message, cutFrom, news, onMessage, newsSize, offered}
 use Rattle.feed.specs.declared.Answer.{Answer}
-use Rattle.feed.specs.declared.Answer.the-variants.{Take}
-use Rattle.feed.specs.Answers.{number, arrives, lacksNeed, isMore, lineTests, tableTests, tests, answerTo}
+use Rattle.feed.specs.declared.Answer.the-variants.{Keep, Lose, Take}
+use Rattle.feed.specs.Answers.{number, arrives, lacksNeed, isMore, isTooLong, lineTests, tableTests, tests, answerTo}
 use Rattle.feed.specs.Steps.{Outcome, accepted, usedOf, act, handed, outcome}
 use Rattle.feed.specs.Code.Judging.{answered}
 use Rattle.feed.specs.declared.Feed.{Feed}
@@ -54,10 +54,11 @@ not-three : (n : ℕ) → T (not (eqb n 3)) → n ≡ 3 → ⊥
 not-three n t e = subst (λ (k : ℕ). T (not (eqb k 3))) e t
 
 three-wants : (f : Feed) (x : Tables) (time : ℕ) (n : News) → isMore n ≡ false → number (answerTo f x time n) ≡ 3 → ⊥
-unfolding notMore tests lineTests tableTests all onMessage isMore number
+unfolding notMore tests lineTests tableTests all onMessage isTooLong isMore number
 three-wants f x time (Linked link) h = not-three _ (first-may notMore (tests f x time (Linked link)) (Take 0) tt tt)
 three-wants f x time More h = λ e. let z : _≡_ {A = ℕ} 0 1 = cc in omega arith
 three-wants f x time Heartbeat h = not-three _ (first-may notMore (tests f x time Heartbeat) (Take 0) tt tt)
+three-wants f x time TooLong h = not-three _ (first-may notMore (tests f x time TooLong) (Take 0) tt tt)
 three-wants f x time (Message q i m) h = not-three _ (first-may notMore (tests f x time (Message q i m)) (Take 0) tt tt)
 
 whole-news : (s : List ℕ) (u : Unit) → (u ≡ unit.More → ⊥) → isMore (cutFrom s u) ≡ false
@@ -97,7 +98,7 @@ module _ (x : State) (s : List ℕ) (time : ℕ) where
       go (unit.Message q i n) = rw (e, d)
 
   wants : ltb time (x .feed .heard) ≡ false → deaf (x .feed .phase) ≡ false → unitOf s ≡ unit.More → outcome x (Arrive s time) ≡ keeps 3 x
-  unfolding outcome handed timeOf news usedOf number act tests lineTests tableTests first arrives lacksNeed isMore cutFrom
+  unfolding outcome handed timeOf news usedOf number act tests lineTests tableTests first arrives lacksNeed isTooLong isMore cutFrom
   wants e d u = rw (u, e, d)
 
   -- what is answered 3 leaves all as it is
@@ -133,6 +134,16 @@ module _ (x : State) (s : List ℕ) (time : ℕ) where
       go unit.More e = absurd (more (ltb time (x .feed .heard)) (deaf (x .feed .phase)) refl refl e)
       go unit.Heartbeat e = used-whole x s time h unit.Heartbeat e (unit-twenty s unit.Heartbeat (λ m. let z : _≡_ {A = ℕ} 0 1 = cc in omega arith))
       go (unit.Message q i n) e = used-whole x s time h (unit.Message q i n) e (unit-twenty s (unit.Message q i n) (λ m. let z : _≡_ {A = ℕ} 0 1 = cc in omega arith))
+
+-- what is longer than the holding buffer is never accepted
+pub overrun-not : (x : State) (time : ℕ) → accepted (outcome x (Overrun time) .given .answer) ≡ false
+unfolding outcome handed timeOf news number tests lineTests first arrives lacksNeed isTooLong
+overrun-not x time = go (ltb time (x .feed .heard)) (deaf (x .feed .phase))
+  where
+    go : (p q : Bool) → accepted (number (cond p (Keep 10) (cond q (Keep 11) (Lose 22)))) ≡ false
+    go true q = refl
+    go false true = refl
+    go false false = refl
 
 -- a call that is not answered 3 comes to the same when bytes follow
 pub stays : (x : State) (a b : List ℕ) (time : ℕ) → (outcome x (Arrive a time) .given .answer ≡ 3 → ⊥) → outcome x (Arrive (a ++ b) time) ≡ outcome x (Arrive a time)

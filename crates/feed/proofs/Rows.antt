@@ -27,8 +27,8 @@ use Rattle.strips.specs.Table.{strips, stepOf, stripsAfter}
 use Rattle.books.specs.Code.Turns.{bookTurn}
 use Rattle.feed.specs.Messages.{kindOf, onMarket, market, tabled, wrongSize, statusOf, listed}
 use Rattle.feed.specs.Feeds.{deaf, inPhase, nextIs, internalIs, heardAt, wholeIs, freshIs}
-use Rattle.feed.specs.Events.{Tables, clearedTables, Connect, Arrive, Cut, timeOf, News, Linked, Message, cutFrom, news, onMessage, newsSize, offered}
-use Rattle.feed.specs.Answers.{number, arrives, lacksNeed, isMore, isNext, allowed, seen, unsoundFor, noSlotFor, misfitsFor, passed, lineTests, tableTests, tests}
+use Rattle.feed.specs.Events.{Tables, clearedTables, Connect, Arrive, Cut, Overrun, timeOf, News, Linked, TooLong, Message, cutFrom, news, onMessage, newsSize, offered}
+use Rattle.feed.specs.Answers.{number, arrives, lacksNeed, isMore, isTooLong, isNext, allowed, seen, unsoundFor, noSlotFor, misfitsFor, passed, lineTests, tableTests, tests}
 use Rattle.feed.specs.Code.Judging.{verdict, refusal}
 use Rattle.feed.specs.Steps.{enterLive, isFresh, loggedOn, clearsOn, clears, tablesAfter, does, advanced, counted, taken, act, accepted, usedOf, Outcome, lent, stateOf, outOf, handed, outcome}
 use Rattle.feed.specs.Code.Judging.{clearedIf, answered, usedIs, onTables}
@@ -202,11 +202,11 @@ module _ (f : Feed) (m : List ℕ) (n q i r : ℕ) (e : r ≡ refusal f n) where
     heard = refuses-none (ltb n (f .heard)) (deaf (f .phase)) (rw e at z)
 
     pub row-size : b ≡ true → Lose 12 ≡ verdict f n (Message q i m)
-    unfolding first lineTests onMessage arrives lacksNeed isMore
+    unfolding first lineTests onMessage arrives lacksNeed isTooLong isMore
     row-size h = rw (heard .0, heard .1, ← w, h)
 
     pub row-other : b ≡ false → (q ≡ f .next → ⊥) → Lose 13 ≡ verdict f n (Message q i m)
-    unfolding first lineTests onMessage arrives lacksNeed isMore isNext
+    unfolding first lineTests onMessage arrives lacksNeed isTooLong isMore isNext
     row-other h o = rw (heard .0, heard .1, ← w, h, ne-eqb q (f .next) o)
 
     module _ (k : Kind) (c : Bool) (h : b ≡ false) (o : q ≡ f .next) (l : q < 2 ^ 32) (a : k ≡ kindOf (field 2 2 m)) (p : c ≡ allowed k (f .phase) i) where
@@ -215,20 +215,20 @@ module _ (f : Feed) (m : List ℕ) (n q i r : ℕ) (e : r ≡ refusal f n) where
       next = rw (o, eq-eqb (f .next) (f .next) refl) (le-leb (f .next) 4294967295 (omega arith))
 
       pub row-allowed : c ≡ false → Lose 14 ≡ verdict f n (Message q i m)
-      unfolding first lineTests onMessage arrives lacksNeed isMore
+      unfolding first lineTests onMessage arrives lacksNeed isTooLong isMore
       row-allowed j = rw (heard .0, heard .1, ← w, h, next, ← a, ← p, j)
 
       module _ (d : Bool) (j : c ≡ true) (v : d ≡ seen f k i) where
         pub row-seen : d ≡ true → Skip 1 ≡ verdict f n (Message q i m)
-        unfolding first lineTests onMessage arrives lacksNeed isMore
+        unfolding first lineTests onMessage arrives lacksNeed isTooLong isMore
         row-seen y = rw (heard .0, heard .1, ← w, h, next, ← a, ← p, j, ← v, y)
 
         pub row-listed : (x : Bool) → d ≡ false → x ≡ listed k m → x ≡ true → Take 0 ≡ verdict f n (Message q i m)
-        unfolding first lineTests onMessage arrives lacksNeed isMore
+        unfolding first lineTests onMessage arrives lacksNeed isTooLong isMore
         row-listed x y u s = rw (heard .0, heard .1, ← w, h, next, ← a, ← p, j, ← v, y, ← u, s)
 
         pub row-unlisted : (x : Bool) → d ≡ false → x ≡ listed k m → x ≡ false → Spoil 15 ≡ verdict f n (Message q i m)
-        unfolding first lineTests onMessage arrives lacksNeed isMore
+        unfolding first lineTests onMessage arrives lacksNeed isTooLong isMore
         row-unlisted x y u s = rw (heard .0, heard .1, ← w, h, next, ← a, ← p, j, ← v, y, ← u, s)
 
 -- an answer that only advances the number
@@ -326,12 +326,12 @@ module _ (f : Feed) (x : Tables) (s : List ℕ) (n : ℕ) (u : Unit) (v : u ≡ 
     heard-now h = refuses-none (ltb n (f .heard)) (deaf (f .phase)) (rw e at h)
 
     pub bytes-more : (g : Given) → r ≤ 0 → NoMessage u → NoHeartbeat u → g ≡ answered 3 f → outOf g x ≡ outcome (stateOf f x) (Arrive s n)
-    unfolding outcome handed first tests lineTests timeOf news cutFrom arrives lacksNeed isMore number act usedOf
+    unfolding outcome handed first tests lineTests timeOf news cutFrom arrives lacksNeed isTooLong isMore number act usedOf
     bytes-more g h c d l = rw (← v, is-more u c d, heard-now h .0, heard-now h .1, l)
 
     pub bytes-quiet : (y : Feed) (g k : Given) → r ≤ 0 → u ≡ unit.Heartbeat → y ≡ heardAt n f → g ≡ answered 0 y → k ≡ usedIs (cond (accepted (g .answer)) 20 0) g
         → outOf k x ≡ outcome (stateOf f x) (Arrive s n)
-    unfolding outcome handed first tests lineTests tableTests timeOf news cutFrom onMessage arrives lacksNeed isMore number act taken usedOf offered newsSize
+    unfolding outcome handed first tests lineTests tableTests timeOf news cutFrom onMessage arrives lacksNeed isTooLong isMore number act taken usedOf offered newsSize
     bytes-quiet y g k h c a l w = rw (← v, c, heard-now h .0, heard-now h .1, w, l, a)
 
   pub bytes-message : (q i size used : ℕ) (g k : Given) (w : Tables) (p : List ℕ) → u ≡ unit.Message q i size → used ≡ 20 + size → p ≡ messageIn s size
@@ -344,6 +344,20 @@ module _ (f : Feed) (x : Tables) (s : List ℕ) (n : ℕ) (u : Unit) (v : u ≡ 
 
 pub sum-fits : (u : Unit) (s : List ℕ) (q i k : ℕ) → u ≡ unitOf s → u ≡ unit.Message q i k → length s < 2 ^ 64 → Fits w64 (20 + k)
 sum-fits u s q i k a b l = record { fits = omega (arith, unit-fits s q i k (sym a ∙ b)) }
+
+-- what is longer than the holding buffer
+module _ (f : Feed) (n r : ℕ) (e : r ≡ refusal f n) (g : Given) (x : Tables) where
+  pub overrun-refused : 0 < r → g ≡ answered r f → record { given = g; tables = x } ≡ outcome (record { feed = f; tables = x }) (Overrun n)
+  unfolding handed timeOf news number act usedOf offered arrives isTake
+  overrun-refused h l =
+      let w : Keep r ≡ verdict f n TooLong = rw e (refused-by f n TooLong refl (ltb n (f .heard)) (deaf (f .phase)) (rw e at h) refl refl) in
+      rw (l, alone f x (Overrun n) (Keep r) w tt, cond-same {A = ℕ} (leb r 2) 0)
+
+  pub overrun-lost : r ≤ 0 → g ≡ answered 22 (inPhase Lost f) → record { given = g; tables = x } ≡ outcome (record { feed = f; tables = x }) (Overrun n)
+  unfolding outcome handed first tests lineTests timeOf news arrives lacksNeed isTooLong number act usedOf
+  overrun-lost h l =
+      let z = refuses-none (ltb n (f .heard)) (deaf (f .phase)) (rw e at h) in
+      rw (z .0, z .1, l)
 
 -- a connect
 module _ (f : Feed) (l : Link) (n : ℕ) (g : Given) (x : Tables) where
@@ -358,7 +372,7 @@ module _ (f : Feed) (l : Link) (n : ℕ) (g : Given) (x : Tables) where
 
     pub link-taken : (y : Feed) (c : Bool) → b ≡ false → y ≡ inPhase WaitKey f → c ≡ isFresh l
         → g ≡ answered 0 (freshIs c (heardAt n (nextIs 1 y))) → record { given = g; tables = x } ≡ outcome (record { feed = f; tables = x }) (Connect l n)
-    unfolding outcome handed first tests lineTests tableTests timeOf news onMessage arrives isMore number act taken usedOf offered
+    unfolding outcome handed first tests lineTests tableTests timeOf news onMessage arrives isTooLong isMore number act taken usedOf offered
     link-taken y c h k d p = rw (le-ltb n (f .heard) a, ← e, h, p, d, k)
 
 pub ruleset rows = (
@@ -395,6 +409,8 @@ pub ruleset rows = (
   bytes-quiet,
   bytes-message,
   sum-fits,
+  overrun-refused,
+  overrun-lost,
   link-early,
   link-refused,
   link-taken,

@@ -8,7 +8,7 @@ use Rattle.books.specs.Table.{unsound, noSlot, misfits}
 use Rattle.strips.specs.Table as strip
 use Rattle.feed.specs.Messages.{kind, onMarket, market, tabled, wrongSize, listed}
 use Rattle.feed.specs.Feeds.{is, deaf}
-use Rattle.feed.specs.Events.{Tables, State, Event, timeOf, News, Linked, More, Heartbeat, Message, news, onMessage}
+use Rattle.feed.specs.Events.{Tables, State, Event, timeOf, News, Linked, More, Heartbeat, TooLong, Message, news, onMessage}
 use Rattle.feed.specs.declared.Phase.{Phase}
 use Rattle.feed.specs.declared.Phase.the-variants.{WaitKey, WaitLogon, Refreshing, Live}
 use Rattle.feed.specs.declared.Kind.{Kind}
@@ -33,6 +33,7 @@ unfoldable pub arrives : News → Bool
 arrives (Linked link) = false
 arrives More = true
 arrives Heartbeat = true
+arrives TooLong = true
 arrives (Message seq internal m) = true
 
 -- "Resuming needs whole and a last internal number of at least 1"
@@ -41,13 +42,22 @@ lacksNeed f (Linked Fresh) = false
 lacksNeed f (Linked Resuming) = not (f .whole && leb 1 (f .internal))
 lacksNeed f More = false
 lacksNeed f Heartbeat = false
+lacksNeed f TooLong = false
 lacksNeed f (Message seq internal m) = false
 
 unfoldable pub isMore : News → Bool
 isMore (Linked link) = false
 isMore More = true
 isMore Heartbeat = false
+isMore TooLong = false
 isMore (Message seq internal m) = false
+
+unfoldable pub isTooLong : News → Bool
+isTooLong (Linked link) = false
+isTooLong More = false
+isTooLong Heartbeat = false
+isTooLong TooLong = true
+isTooLong (Message seq internal m) = false
 
 -- "After SeqNum 4,294,967,295 the next never comes"
 abbrev pub lastSeqNum : ℕ
@@ -94,12 +104,14 @@ misfitsFor (Market Other) time m x = false
 unfoldable pub passed : Kind → Bool
 passed k = onMarket (λ d. not (tabled d)) k
 
--- the table of document 01 from its second row on (its first, 19, is newGiven's): what a feed decides by itself ..
+-- the table of document 01 from its second row on (its first, 19, is newGiven's), with 22 of document 02, request 5, "after 11 and before 12": what a
+-- feed decides by itself ..
 unfoldable pub lineTests : Feed → ℕ → News → List (Bool × Answer)
 lineTests f time n =
     (ltb time (f .heard), Keep 10)
     ∷ (arrives n && deaf (f .phase), Keep 11)
     ∷ (lacksNeed f n, Keep 20)
+    ∷ (isTooLong n, Lose 22)
     ∷ (isMore n, Keep 3)
     ∷ (onMessage (λ seq internal m. wrongSize m) n, Lose 12)
     ∷ (onMessage (λ seq internal m. not (isNext f seq)) n, Lose 13)

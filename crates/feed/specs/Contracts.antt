@@ -3,7 +3,7 @@ use Prim.Native.Nat.{ℕ}
 use mathlib.Core.Path.{_≡_}
 use mathlib.Core.List.{List}
 use Rattle.feed.specs.Feeds.{newGiven, badgeOf}
-use Rattle.feed.specs.Events.{Tables, Connect, Arrive, Cut}
+use Rattle.feed.specs.Events.{Tables, Connect, Arrive, Cut, Overrun}
 use Rattle.feed.specs.Steps.{stateOf, outOf, outcome}
 use Rattle.feed.specs.Frames.{framedOf, framed}
 use Rattle.feed.specs.Reasons.{why}
@@ -27,6 +27,10 @@ ArriveSays f x bytes time r after = outOf r after ≡ outcome (stateOf f x) (Arr
 
 abbrev pub CutSays : Feed → Tables → ℕ → ℕ → List ℕ → ℕ → Given → Tables → Type 0
 CutSays f x seq internal m time r after = outOf r after ≡ outcome (stateOf f x) (Cut seq internal m time)
+
+-- Feed::overrun: lent no table, so it is said with every one
+abbrev pub OverrunSays : Feed → ℕ → Given → Type 0
+OverrunSays f time r = (x : Tables) → outOf r x ≡ outcome (stateOf f x) (Overrun time)
 
 -- Feed::arrive_frame: last answer, units accepted, bytes used, feed, and every word of every table after it
 abbrev pub FrameSays : Feed → Tables → List ℕ → ℕ → ℕ → Frame → Tables → Type 0

@@ -26,21 +26,24 @@ pub record State : Type 0 where
   pub feed : Feed
   pub tables : Tables
 
--- a connect; an arrival of bytes; "the two numbers and a message already cut"; each at a time
+-- a connect; an arrival of bytes; "the two numbers and a message already cut"; document 02, request 5: what comes is longer than the holding buffer.
+-- Each at a time
 pub data Event : Type 0 where
   Connect : (link : Link) (time : ℕ) → Event
   Arrive : (bytes : List ℕ) (time : ℕ) → Event
   Cut : (seq internal : ℕ) (message : List ℕ) (time : ℕ) → Event
+  Overrun : (time : ℕ) → Event
 
 unfoldable pub timeOf : Event → ℕ
 timeOf (Connect link time) = time
 timeOf (Arrive bytes time) = time
 timeOf (Cut seq internal m time) = time
+timeOf (Overrun time) = time
 
 -- what an event brings
 pub data News : Type 0 where
   Linked : (link : Link) → News
-  More Heartbeat : News
+  More Heartbeat TooLong : News
   Message : (seq internal : ℕ) (message : List ℕ) → News
 
 -- the unit at the front of bytes, its message as the part of them
@@ -54,12 +57,14 @@ unfoldable pub news : Event → News
 news (Connect link time) = Linked link
 news (Arrive bytes time) = cutFrom bytes (unitOf bytes)
 news (Cut seq internal m time) = Message seq internal m
+news (Overrun time) = TooLong
 
 -- a test of a message; nothing else passes it
 unfoldable pub onMessage : (ℕ → ℕ → List ℕ → Bool) → News → Bool
 onMessage test (Linked link) = false
 onMessage test More = false
 onMessage test Heartbeat = false
+onMessage test TooLong = false
 onMessage test (Message seq internal m) = test seq internal m
 
 -- "the header plus MsgSize .. (for a heartbeat, its own length)"
@@ -67,6 +72,7 @@ unfoldable pub newsSize : News → ℕ
 newsSize (Linked link) = 0
 newsSize More = 0
 newsSize Heartbeat = headerSize
+newsSize TooLong = 0
 newsSize (Message seq internal m) = headerSize + length m
 
 -- the bytes that an event has to offer: of a message already cut, "no bytes used"
@@ -74,3 +80,4 @@ unfoldable pub offered : Event → ℕ
 offered (Connect link time) = 0
 offered (Arrive bytes time) = newsSize (news (Arrive bytes time))
 offered (Cut seq internal m time) = 0
+offered (Overrun time) = 0

@@ -7,7 +7,7 @@ use Rattle.books.specs.Table.{booksAfter}
 use Rattle.strips.specs.Table.{stripsAfter}
 use Rattle.feed.specs.Messages.{kind, market, statusOf, logonStatus, lastInternal}
 use Rattle.feed.specs.Feeds.{is, inPhase, nextIs, internalIs, heardAt, wholeIs, freshIs}
-use Rattle.feed.specs.Events.{Tables, clearedTables, State, Event, timeOf, News, Linked, More, Heartbeat, Message, news, offered}
+use Rattle.feed.specs.Events.{Tables, clearedTables, State, Event, timeOf, News, Linked, More, Heartbeat, TooLong, Message, news, offered}
 use Rattle.feed.specs.Answers.{number, reply}
 use Rattle.feed.specs.declared.Phase.the-variants.{WaitKey, WaitLogon, Refreshing, Live, Lost, Closed}
 use Rattle.feed.specs.declared.Kind.{Kind}
@@ -96,11 +96,12 @@ advanced time f = heardAt time (nextIs (f .next + 1) f)
 unfoldable pub counted : Kind → ℕ → Feed → Feed
 counted k internal f = cond (market k && is (f .phase) Live) (internalIs internal f) f
 
--- what is taken: a connect; a heartbeat, which "advances no number"; a message (More is answered 3 and never taken)
+-- what is taken: a connect; a heartbeat, which "advances no number"; a message (More is answered 3 and what is too long 22, and neither is ever taken)
 unfoldable pub taken : ℕ → News → State → State
 taken time (Linked link) s = onFeed (connected link time) s
 taken time More s = s
 taken time Heartbeat s = onFeed (heardAt time) s
+taken time TooLong s = s
 taken time (Message seq internal m) s = onFeed (λ f. advanced time (counted (kind m) internal f)) (does (kind m) time m s)
 
 -- "Feed afterwards". "Lost changes nothing else, but for whole"

@@ -14,7 +14,7 @@ ghost use Prim.Native.Nat.{_≤_};
 ghost use Rattle.feed.specs.Messages.{kind as kindIn, wrongSize};
 ghost use Rattle.feed.specs.Feeds.{inPhase, wholeIs};
 ghost use Rattle.feed.specs.Events.{clearedTables, Cut};
-ghost use Rattle.feed.specs.Contracts.{ArriveSays, CutSays};
+ghost use Rattle.feed.specs.Contracts.{ArriveSays, CutSays, OverrunSays};
 ghost use Rattle.feed.specs.Answers.{lastSeqNum};
 ghost use Rattle.feed.specs.Steps.{advanced as advancedAt, counted, accepted, lent, stateOf, outOf};
 ghost use Rattle.feed.specs.Code.Judging.{answered, onTables};
@@ -117,5 +117,16 @@ impl Feed {
         let message = front.message(bytes, size);
         self.arrive_cut(books, strips, seq, internal, message, time)
             .using(used)
+    }
+
+    // What is longer than the holding buffer: 10, 11, or 22 and Lost.
+    pub fn overrun(self, time: u64) -> Given
+        ensures { λ r. ⌜ OverrunSays self time r ⌝ }
+    {
+        let refused = self.refusal(time);
+        if 0 < refused {
+            return self.kept(refused);
+        }
+        self.lost(22)
     }
 }

@@ -142,7 +142,7 @@ unfolding strips-Words.wordsFrom strips-Words.stripOf strips-Words.wordsOf strip
 strips-words = 0
 
 unfoldable feed-answers : ℕ
-unfolding feed-Answers.number feed-Answers.arrives feed-Answers.lacksNeed feed-Answers.isMore feed-Answers.isNext feed-Answers.allowed feed-Answers.seen feed-Answers.unsoundFor feed-Answers.noSlotFor feed-Answers.misfitsFor feed-Answers.passed feed-Answers.lineTests feed-Answers.tableTests feed-Answers.tests
+unfolding feed-Answers.number feed-Answers.arrives feed-Answers.lacksNeed feed-Answers.isMore feed-Answers.isTooLong feed-Answers.isNext feed-Answers.allowed feed-Answers.seen feed-Answers.unsoundFor feed-Answers.noSlotFor feed-Answers.misfitsFor feed-Answers.passed feed-Answers.lineTests feed-Answers.tableTests feed-Answers.tests
 feed-answers = 0
 
 unfoldable feed-code-judging : ℕ

@@ -7,7 +7,7 @@ use lib.Dec.{T}
 use Rattle.ground.proofs.Bools.{split}
 use Rattle.feed.specs.Messages.{kind, market, statusOf, logonStatus}
 use Rattle.feed.specs.Feeds.{is, internalIs}
-use Rattle.feed.specs.Events.{Tables, State, News, Linked, More, Heartbeat, Message, news, timeOf}
+use Rattle.feed.specs.Events.{Tables, State, News, Linked, More, Heartbeat, TooLong, Message, news, timeOf}
 use Rattle.feed.specs.Answers.{noSlotFor, misfitsFor, reply}
 use Rattle.feed.specs.declared.Answer.{Answer}
 use Rattle.feed.specs.declared.Answer.the-variants.{Keep, Lose, Spoil, Skip, Take}
@@ -116,6 +116,7 @@ module _ (s : State) (w : s .feed .whole ≡ false) where
   act-sets (Take n) time (Linked link) e = absurd (never e)
   act-sets (Take n) time More e = absurd (never e)
   act-sets (Take n) time Heartbeat e = absurd (never e)
+  act-sets (Take n) time TooLong e = absurd (never e)
   act-sets (Take n) time (Message seq internal m) e =
       let f : Feed = does (kind m) time m s .feed in
       counted-phase (kind m) internal f ∙ kind-sets (kind m) time m (sym (counted-whole (kind m) internal f) ∙ e)

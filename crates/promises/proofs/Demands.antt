@@ -37,7 +37,7 @@ use Rattle.strips.proofs.Keeps.{step-fits, step-modest}
 use Rattle.feed.specs.Messages.{kind, onMarket, tabled, listed as listedOf}
 use Rattle.feed.specs.Feeds.{listedLimit, newFeed, newGiven}
 use Rattle.feed.specs.Events.{Tables, State, Event, News, Message, timeOf, onMessage}
-use Rattle.feed.specs.Answers.{number, arrives, lacksNeed, isMore, isNext, lineTests, tableTests, tests, answerTo, reply, unsoundFor, noSlotFor, misfitsFor, passed}
+use Rattle.feed.specs.Answers.{number, arrives, lacksNeed, isMore, isTooLong, isNext, lineTests, tableTests, tests, answerTo, reply, unsoundFor, noSlotFor, misfitsFor, passed}
 use Rattle.feed.specs.Steps.{tablesAfter, does, taken, act, accepted, handed, outcome}
 use Rattle.feed.specs.declared.Kind.{Kind}
 use Rattle.feed.specs.declared.Kind.the-variants.{Market}
@@ -257,7 +257,7 @@ stripOthers s e m t =
     )
 
 pub stripFits : D.StripFits
-unfolding outcome handed tests lineTests tableTests all onMessage arrives lacksNeed isMore number
+unfolding outcome handed tests lineTests tableTests all onMessage arrives lacksNeed isTooLong isMore number
 stripFits s e seq internal m b k =
     let ts : List (Bool × Answer) = tests (s .feed) (s .tables) (timeOf e) (Message seq internal m) in
     let fit : misfitsFor (kind m) (timeOf e) m (s .tables) ≡ false = unfold misfitsFor in rw k in
@@ -292,7 +292,7 @@ unfolding misfitsFor
 empty-fit k time m x e none = rw e (no-misfit time m (x .books) none)
 
 pub emptyFits : D.EmptyFits
-unfolding outcome handed tests lineTests tableTests all onMessage arrives lacksNeed isMore number
+unfolding outcome handed tests lineTests tableTests all onMessage arrives lacksNeed isTooLong isMore number
 emptyFits s e seq internal m b k none =
     let ts : List (Bool × Answer) = tests (s .feed) (s .tables) (timeOf e) (Message seq internal m) in
     let room : noSlotFor (kind m) m (s .tables) ≡ false = empty-slot (kind m) m (s .tables) k none in

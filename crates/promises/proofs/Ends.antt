@@ -13,8 +13,8 @@ use Rattle.ground.proofs.Choices.{first-may, each-has}
 use Rattle.wire.specs.Number.{bytesOnly}
 use Rattle.ladder.proofs.Orders.{all-take, all-drop}
 use Rattle.feed.specs.Feeds.{listedLimit, newGiven}
-use Rattle.feed.specs.Events.{Tables, State, Event, Connect, Arrive, News, Linked, More, Heartbeat, Message, news, timeOf, onMessage}
-use Rattle.feed.specs.Answers.{number, arrives, lacksNeed, isMore, lineTests, tableTests, tests, reply, answerTo}
+use Rattle.feed.specs.Events.{Tables, State, Event, Connect, Arrive, News, Linked, More, Heartbeat, TooLong, Message, news, timeOf, onMessage}
+use Rattle.feed.specs.Answers.{number, arrives, lacksNeed, isMore, isTooLong, lineTests, tableTests, tests, reply, answerTo}
 use Rattle.feed.specs.Steps.{taken, act, accepted, handed, outcome}
 use Rattle.feed.specs.Program.{bufferSize, tableWords, stripWords, Stand, follow, connection}
 use Rattle.feed.specs.declared.Feed.{Feed}
@@ -51,6 +51,7 @@ heard-by P s e p q = go (reply s e) (news e)
     go (Take k) (Linked link) = q
     go (Take k) More = p
     go (Take k) Heartbeat = q
+    go (Take k) TooLong = p
     go (Take k) (Message seq internal m) = q
 
 -- the answers of an arrival that is not accepted, but for 10 and 18
@@ -131,7 +132,7 @@ ends (suc calls) s x es l h st =
 
 -- from the connect on
 pub programEnds : C.ProgramEnds
-unfolding run after outcome handed newGiven listedLimit first all handsBytes tests lineTests tableTests arrives lacksNeed isMore onMessage act taken news timeOf
+unfolding run after outcome handed newGiven listedLimit first all handsBytes tests lineTests tableTests arrives lacksNeed isTooLong isMore onMessage act taken news timeOf
 programEnds s h =
     ends (length s + 1) s (record { answer = 0; units = 0; state = connection }) (Connect Fresh 0 ∷ []) (omega arith) h
     (record { is = refl; bytes = tt; heard = refl })

@@ -305,7 +305,7 @@ last-of (f ∷ fs) e s =
     let r = last-of fs f (after s e) in
     record { others = e ∷ r .others; event = r .event; parts = ap (_∷_ e) (r .parts); says = r .says }
 
--- a frame that ends 12 to 18 made a single call that did
+-- a frame that ends 12 to 18 or 22 made a single call that did
 last-single : (es : List Event) (s : State) → T (oneOf (lastOf 0 (answersIn (trace s es))) ending) → Last s es (lastOf 0 (answersIn (trace s es)))
 unfolding lastOf answersIn trace oneOf
 last-single [] s h = absurd h

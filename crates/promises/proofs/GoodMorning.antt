@@ -23,8 +23,8 @@ use Rattle.strips.specs.Table.{strips, stepOf, stripsAfter}
 use Rattle.strips.proofs.Lawful.{lawful}
 use Rattle.feed.specs.Messages.{kind, onMarket, market, wrongSize, listed, statusOf, logonStatus}
 use Rattle.feed.specs.Feeds.{is, deaf, internalIs, badgeNo, badge, badgeOf, listedLimit}
-use Rattle.feed.specs.Events.{Tables, clearedTables, State, Event, Connect, News, Linked, More, Heartbeat, Message, news, timeOf, onMessage}
-use Rattle.feed.specs.Answers.{number, arrives, lacksNeed, isMore, lastSeqNum, isNext, allowed, seen, unsoundFor, noSlotFor, misfitsFor, passed, lineTests, tableTests, tests, answerTo}
+use Rattle.feed.specs.Events.{Tables, clearedTables, State, Event, Connect, News, Linked, More, Heartbeat, TooLong, Message, news, timeOf, onMessage}
+use Rattle.feed.specs.Answers.{number, arrives, lacksNeed, isMore, isTooLong, lastSeqNum, isNext, allowed, seen, unsoundFor, noSlotFor, misfitsFor, passed, lineTests, tableTests, tests, answerTo}
 use Rattle.feed.specs.declared.Answer.{Answer}
 use Rattle.feed.specs.declared.Answer.the-variants.{Skip, Take}
 use Rattle.feed.specs.Steps.{onFeed, cleared, enterLive, loggedOn, tablesAfter, does, advanced, counted, taken, act, accepted, handed, outcome}
@@ -195,14 +195,14 @@ seen-again f w d internal p q = rw (p, q, is-open (w .stage)) (go (on (w .stage)
 answer-open : (f : Feed) (x : Tables) (time seq internal : ℕ) (m : List ℕ) → ltb time (f .heard) ≡ false → deaf (f .phase) ≡ false → wrongSize m ≡ false
     → isNext f seq ≡ true → allowed (kind m) (f .phase) internal ≡ true → seen f (kind m) internal ≡ true
     → answerTo f x time (Message seq internal m) ≡ Skip 1
-unfolding tests lineTests tableTests first onMessage arrives lacksNeed isMore
+unfolding tests lineTests tableTests first onMessage arrives lacksNeed isTooLong isMore
 answer-open f x time seq internal m a b c d e g = rw (a, b, c, d, e, g)
 
 answer-taken : (f : Feed) (x : Tables) (time seq internal : ℕ) (m : List ℕ) → ltb time (f .heard) ≡ false → deaf (f .phase) ≡ false → wrongSize m ≡ false
     → isNext f seq ≡ true → allowed (kind m) (f .phase) internal ≡ true → seen f (kind m) internal ≡ false → listed (kind m) m ≡ true
     → unsoundFor (kind m) m x ≡ false → noSlotFor (kind m) m x ≡ false → misfitsFor (kind m) time m x ≡ false
     → answerTo f x time (Message seq internal m) ≡ cond (passed (kind m)) (Take 2) (Take 0)
-unfolding tests lineTests tableTests first onMessage arrives lacksNeed isMore
+unfolding tests lineTests tableTests first onMessage arrives lacksNeed isTooLong isMore
 answer-taken f x time seq internal m a b c d e g l u v z = rw (a, b, c, d, e, g, l, u, v, z)
 
 -- a book message that fits what was said: there is a slot, it fits the table, and the codes are then as told
@@ -481,7 +481,7 @@ module _ (n : Sizes) (s : State) (h : History) (w : Talk) (k : Run n s h) (i : G
         go false e = first-said e
 
   on-news : (x : News) → fairNews (slotsOf n) w time x ≡ true → Stepped s h x time (saidNews x time w)
-  unfolding fairNews saidNews number act taken noteNews tests lineTests tableTests first onMessage arrives lacksNeed isMore isNext oneOf
+  unfolding fairNews saidNews number act taken noteNews tests lineTests tableTests first onMessage arrives lacksNeed isTooLong isMore isNext oneOf
   on-news (Linked link) f = absurd (true≢false (sym f))
   on-news More f = absurd (true≢false (sym f))
   on-news Heartbeat f =
@@ -491,6 +491,7 @@ module _ (n : Sizes) (s : State) (h : History) (w : Talk) (k : Run n s h) (i : G
         next = i .next;
         heard = refl;
       })
+  on-news TooLong f = absurd (true≢false (sym f))
   on-news (Message seq internal m) f =
       let a = eqb seq (w .next) in
       let b = leb seq lastSeqNum in
@@ -554,7 +555,7 @@ part-bytes (e ∷ es) fs b =
 -- a fresh connect begins it
 begun : (s : State) (h : History) (time : ℕ) → ltb time (s .feed .heard) ≡ false
     → Goes (after s (Connect Fresh time)) (note h (Connect Fresh time) (outcome s (Connect Fresh time) .given .answer)) (begins time)
-unfolding after outcome handed news timeOf tests lineTests tableTests first onMessage arrives lacksNeed isMore act taken number
+unfolding after outcome handed news timeOf tests lineTests tableTests first onMessage arrives lacksNeed isTooLong isMore act taken number
 begun s h time e = rw e (record { core = record { phase = refl; fresh = refl; told = (refl, refl, refl, refl) }; next = refl; heard = refl })
 
 -- the badge

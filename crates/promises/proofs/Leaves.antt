@@ -15,7 +15,7 @@ use Rattle.strips.specs.Table.{strips, stepOf, stripsAfter}
 use Rattle.strips.proofs.Lawful.{lawful}
 use Rattle.books.proofs.Frames.{books-codes}
 use Rattle.feed.specs.Messages.{kind, onMarket, tabled, statusOf, logonStatus}
-use Rattle.feed.specs.Events.{Tables, clearedTables, State, Event, News, Linked, More, Heartbeat, Message, news, timeOf, onMessage}
+use Rattle.feed.specs.Events.{Tables, clearedTables, State, Event, News, Linked, More, Heartbeat, TooLong, Message, news, timeOf, onMessage}
 use Rattle.feed.specs.Answers.{number, passed, answerTo, reply}
 use Rattle.feed.specs.declared.Answer.{Answer}
 use Rattle.feed.specs.declared.Answer.the-variants.{Keep, Lose, Spoil, Skip, Take}
@@ -97,6 +97,7 @@ module _ (P : Tables → Type 0) (s : State) (time : ℕ) where
   by-answer (Linked link) (Take k) e q b c p = p
   by-answer More (Take k) e q b c p = p
   by-answer Heartbeat (Take k) e q b c p = p
+  by-answer TooLong (Take k) e q b c p = p
   by-answer (Message seq internal m) (Take k) e q b c p =
       each-has (λ (j : ℕ). k ≡ j → answerTo (s .feed) (s .tables) time (Message seq internal m) ≡ Take j → P (does (kind m) time m s .tables)) (2 ∷ 0 ∷ []) (
         λ z t.
@@ -134,6 +135,7 @@ unfolding onMessage taken
 clear-news (Linked link) fresh e time s f = absurd (true≢false (sym e))
 clear-news More fresh e time s f = absurd (true≢false (sym e))
 clear-news Heartbeat fresh e time s f = absurd (true≢false (sym e))
+clear-news TooLong fresh e time s f = absurd (true≢false (sym e))
 clear-news (Message seq internal m) fresh e time s f =
     after-kind (kind m) time m s ∙ rw (not-book (kind m) fresh m e, f, e)
   where

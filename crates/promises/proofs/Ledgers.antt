@@ -12,8 +12,8 @@ use Rattle.ground.proofs.Bools.{both, split, of-T}
 use Rattle.ground.proofs.Choices.{first-may, first-skips, each-has}
 use Rattle.feed.specs.Messages.{kind, onMarket, market, statusOf, logonStatus, lastInternal}
 use Rattle.feed.specs.Feeds.{is, deaf, inPhase, internalIs, wholeIs}
-use Rattle.feed.specs.Events.{State, Event, News, Linked, More, Heartbeat, Message, news, timeOf, onMessage}
-use Rattle.feed.specs.Answers.{number, arrives, lacksNeed, isMore, isNext, allowed, seen, lineTests, tableTests, tests, answerTo, reply}
+use Rattle.feed.specs.Events.{State, Event, News, Linked, More, Heartbeat, TooLong, Message, news, timeOf, onMessage}
+use Rattle.feed.specs.Answers.{number, arrives, lacksNeed, isMore, isTooLong, isNext, allowed, seen, lineTests, tableTests, tests, answerTo, reply}
 use Rattle.feed.specs.declared.Answer.{Answer}
 use Rattle.feed.specs.declared.Answer.the-variants.{Keep, Lose, Spoil, Skip, Take}
 use Rattle.feed.specs.Steps.{onFeed, cleared, enterLive, loggedOn, does, advanced, counted, taken, act, handed, outcome}
@@ -262,7 +262,7 @@ isEarly (Skip n) = true
 isEarly (Take n) = true
 
 early : (s : State) (time seq internal : ℕ) (m : List ℕ) → deaf (s .feed .phase) ≡ false → T (isEarly (answerTo (s .feed) (s .tables) time (Message seq internal m)))
-unfolding isEarly tests lineTests tableTests all onMessage arrives lacksNeed isMore
+unfolding isEarly tests lineTests tableTests all onMessage arrives lacksNeed isTooLong isMore
 early s time seq internal m d = first-may isEarly (tests (s .feed) (s .tables) time (Message seq internal m)) (Take 0) (rw d tt) tt
 
 module _ (limit : ℕ) (n : Sizes) (s : State) (h : History) (l : Ledger) (b : Known limit n s h) (i : Inv s l) (time : ℕ) where
@@ -271,6 +271,7 @@ module _ (limit : ℕ) (n : Sizes) (s : State) (h : History) (l : Ledger) (b : K
   kept (Linked link) k e = i
   kept More k e = i
   kept Heartbeat k e = i
+  kept TooLong k e = i
   kept (Message seq internal m) k e = split (Inv s) (eqb k 10) l (sees seq l) (λ t. i) λ t. record {
     next = i .next;
     gapless = i .gapless;
@@ -301,6 +302,7 @@ module _ (limit : ℕ) (n : Sizes) (s : State) (h : History) (l : Ledger) (b : K
       go (Linked link) = base (k .came)
       go More = base (k .came)
       go Heartbeat = base (k .came)
+      go TooLong = base (k .came)
       go (Message seq internal m) = split (Inv (record { feed = f; tables = s .tables })) (eqb j 10) k (sees seq k) (λ t. base (k .came)) (λ t. base (k .came ++ (seq ∷ [])))
 
   lost : (x : News) (k : ℕ) → Inv (onFeed (inPhase Lost) s) (enterCame k x l)
@@ -310,10 +312,11 @@ module _ (limit : ℕ) (n : Sizes) (s : State) (h : History) (l : Ledger) (b : K
   spoilt x k = fallen (inPhase Lost (wholeIs false (s .feed))) (spoils l) refl refl (refl, refl) (record { last = i .numbered .last; rises = i .numbered .rises; whole = refl }) x k
 
   skipped : (x : News) → answerTo (s .feed) (s .tables) time x ≡ Skip 1 → Inv (onFeed (advanced time) s) (enterCame 1 x (enterAccepted true x h l))
-  unfolding enterCame enterAccepted isSkip isCounted tests lineTests tableTests all onMessage arrives lacksNeed isMore
+  unfolding enterCame enterAccepted isSkip isCounted tests lineTests tableTests all onMessage arrives lacksNeed isTooLong isMore
   skipped (Linked link) e = absurd (never-skipped s time (Linked link) 1 e (first-may (λ a. not (isSkip a)) (tests (s .feed) (s .tables) time (Linked link)) (Take 0) tt tt))
   skipped More e = absurd (never-skipped s time More 1 e (first-may (λ a. not (isSkip a)) (tests (s .feed) (s .tables) time More) (Take 0) tt tt))
   skipped Heartbeat e = absurd (never-skipped s time Heartbeat 1 e (first-may (λ a. not (isSkip a)) (tests (s .feed) (s .tables) time Heartbeat) (Take 0) tt tt))
+  skipped TooLong e = absurd (never-skipped s time TooLong 1 e (first-may (λ a. not (isSkip a)) (tests (s .feed) (s .tables) time TooLong) (Take 0) tt tt))
   skipped (Message seq internal m) e =
       met-more s (advanced time (s .feed)) l l seq refl (refl, refl) (counts s time seq internal m (rw e tt)) (i .empty) i
       (record { last = i .numbered .last; rises = i .numbered .rises; whole = i .numbered .whole })
@@ -336,6 +339,7 @@ module _ (limit : ℕ) (n : Sizes) (s : State) (h : History) (l : Ledger) (b : K
     numbered = record { last = i .numbered .last; rises = i .numbered .rises; whole = i .numbered .whole };
     empty = i .empty;
   }
+  took k TooLong z e = i
   took k (Message seq internal m) z e =
       let g : Fine s time seq internal m = fine s time seq internal m k e in
       let f : Feed = counted (kind m) internal (does (kind m) time m s .feed) in
@@ -357,7 +361,7 @@ module _ (limit : ℕ) (n : Sizes) (s : State) (h : History) (l : Ledger) (b : K
   on-answer x (Keep k) e q =
       each-has (λ (k : ℕ). answerTo (s .feed) (s .tables) time x ≡ Keep k → Inv (act (Keep k) time x s) (enter h l x k)) keeping
       (kept x 10, (kept x 11, (kept x 20, (kept x 3, tt)))) k q e
-  on-answer x (Lose k) e q = each-has (λ (k : ℕ). Inv (act (Lose k) time x s) (enter h l x k)) losing (lost x 12, (lost x 13, (lost x 14, tt))) k q
+  on-answer x (Lose k) e q = each-has (λ (k : ℕ). Inv (act (Lose k) time x s) (enter h l x k)) losing (lost x 12, (lost x 13, (lost x 14, (lost x 22, tt)))) k q
   on-answer x (Spoil k) e q =
       each-has (λ (k : ℕ). Inv (act (Spoil k) time x s) (enter h l x k)) spoiling
       (spoilt x 15, (spoilt x 16, (spoilt x 17, (spoilt x 18, tt)))) k q

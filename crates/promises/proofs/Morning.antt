@@ -18,8 +18,8 @@ use Rattle.strips.specs.Table.{strips}
 use Rattle.books.proofs.Frames.{AllSound, never-unsound}
 use Rattle.wire.specs.Codes.{securityCode}
 use Rattle.feed.specs.Messages.{kind, statusOf, logonStatus}
-use Rattle.feed.specs.Events.{Tables, State, Event, Connect, Arrive, Cut, News, Linked, More, Heartbeat, Message, news, cutFrom, timeOf, onMessage}
-use Rattle.feed.specs.Answers.{number, arrives, lacksNeed, isMore, unsoundFor, lineTests, tableTests, tests, answerTo}
+use Rattle.feed.specs.Events.{Tables, State, Event, Connect, Arrive, Cut, Overrun, News, Linked, More, Heartbeat, TooLong, Message, news, cutFrom, timeOf, onMessage}
+use Rattle.feed.specs.Answers.{number, arrives, lacksNeed, isMore, isTooLong, unsoundFor, lineTests, tableTests, tests, answerTo}
 use Rattle.feed.specs.declared.Answer.the-variants.{Take}
 use Rattle.feed.specs.Feeds.{badgeNo, badgeOf}
 use Rattle.feed.specs.Steps.{accepted, handed, outcome}
@@ -47,10 +47,11 @@ sound-row m x (Market Strip) a b = values.never-unsound strips (x .strips) b (se
 sound-row m x (Market Other) a b = refl
 
 no-eighteen : (s : State) (time : ℕ) → AllSound (s .tables .books) → values.AllSound strips (s .tables .strips) → (n : News) → T (isNot 18 (answerTo (s .feed) (s .tables) time n))
-unfolding tests lineTests tableTests all onMessage arrives lacksNeed isMore number
+unfolding tests lineTests tableTests all onMessage arrives lacksNeed isTooLong isMore number
 no-eighteen s time a b (Linked link) = first-may (isNot 18) (tests (s .feed) (s .tables) time (Linked link)) (Take 0) tt tt
 no-eighteen s time a b More = first-may (isNot 18) (tests (s .feed) (s .tables) time More) (Take 0) tt tt
 no-eighteen s time a b Heartbeat = first-may (isNot 18) (tests (s .feed) (s .tables) time Heartbeat) (Take 0) tt tt
+no-eighteen s time a b TooLong = first-may (isNot 18) (tests (s .feed) (s .tables) time TooLong) (Take 0) tt tt
 no-eighteen s time a b (Message seq internal m) =
     first-may (isNot 18) (tests (s .feed) (s .tables) time (Message seq internal m)) (Take 0) (rw (sound-row m (s .tables) (kind m) a b) tt) tt
 
@@ -121,6 +122,7 @@ unfolding news timeOf Over noteNews
 over-news (Connect link time) h t p = absurd (true≢false t)
 over-news (Arrive bytes time) h t p = over-cut bytes time h p (unitOf bytes)
 over-news (Cut seq internal m time) h t p = over-taken (kind m) time m h p
+over-news (Overrun time) h t p = p
 
 -- what a test that failed says, where the answer was accepted
 is-no : (b : Bool) → T (not b) → b ≡ false
@@ -168,16 +170,17 @@ unfolding Dark noteNews onMessage
 dark-news (Linked link) time h t p = refl
 dark-news More time h t p = p
 dark-news Heartbeat time h t p = p
+dark-news TooLong time h t p = p
 dark-news (Message seq internal m) time h t p = dark-taken (kind m) time m h t p
 
 dark-note : (h : History) (e : Event) (n : ℕ) → T (not (logsOn (e, n))) → Dark h → Dark (note h e n)
 unfolding Dark logsOn
 dark-note h e n t p = noted Dark h e n (and-false (h .up)) (λ a. dark-news (news e) (timeOf e) h (not-second (accepted n) _ t a) p) p p
 
--- an arrival answered 12 to 18 makes it over
+-- an arrival answered 12 to 18 or 22 makes it over
 late : (h : History) (e : Event) (n : ℕ) → T (oneOf n ending) → note h e n ≡ noteOver h
 unfolding note oneOf
-late h e n t = each-has (λ (k : ℕ). note h e k ≡ noteOver h) ending (refl, (refl, (refl, (refl, (refl, (refl, (refl, tt))))))) n t
+late h e n t = each-has (λ (k : ℕ). note h e k ≡ noteOver h) ending (refl, (refl, (refl, (refl, (refl, (refl, (refl, (refl, tt)))))))) n t
 
 dark-green : (u o v a b : Bool) → (u && not v) ≡ false → (u && not o && not v && a && b) ≡ false
 dark-green false o v a b e = refl

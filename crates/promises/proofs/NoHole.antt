@@ -7,7 +7,7 @@ use lib.Dec.{ltb, leb, eqb}
 use Rattle.ground.specs.Choice.{first}
 use Rattle.feed.specs.Feeds.{is, deaf, listedLimit, colour, badgeNo, badge}
 use Rattle.feed.specs.Events.{news, timeOf, onMessage}
-use Rattle.feed.specs.Answers.{number, arrives, lacksNeed, isMore, lineTests, tableTests, tests}
+use Rattle.feed.specs.Answers.{number, arrives, lacksNeed, isMore, isTooLong, lineTests, tableTests, tests}
 use Rattle.feed.specs.declared.Answer.{Answer}
 use Rattle.feed.specs.declared.Answer.the-variants.{Keep}
 use Rattle.feed.specs.Steps.{handed, outcome}
@@ -41,7 +41,7 @@ one-test true = refl
 one-test false = refl
 
 pub resumes : N.Resumes
-unfolding outcome handed tests lineTests tableTests first arrives lacksNeed isMore onMessage news timeOf
+unfolding outcome handed tests lineTests tableTests first arrives lacksNeed isTooLong isMore onMessage news timeOf
 resumes limit n es time =
     let f : Feed = run (start limit n) es .feed in
     let k = on-ledger limit n es in (

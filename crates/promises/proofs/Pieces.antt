@@ -13,7 +13,7 @@ use Rattle.wire.specs.Units.{unitOf}
 use Rattle.wire.specs.declared.Unit.the-variants as unit
 use Rattle.feed.specs.Feeds.{deaf}
 use Rattle.feed.specs.Events.{State, Event, Arrive, News, news, timeOf, cutFrom, onMessage}
-use Rattle.feed.specs.Answers.{number, arrives, lacksNeed, isMore, lineTests, tableTests, tests, answerTo}
+use Rattle.feed.specs.Answers.{number, arrives, lacksNeed, isMore, isTooLong, lineTests, tableTests, tests, answerTo}
 use Rattle.feed.specs.declared.Answer.the-variants.{Keep}
 use Rattle.feed.specs.Steps.{accepted, handed, outcome}
 use Rattle.feed.proofs.Laws.{used-fits}
@@ -24,7 +24,7 @@ use Rattle.promises.proofs.Demands.{behind}
 
 -- where the bytes end too early the call is not accepted
 more-answer : (s : State) (time : ℕ) → accepted (number (answerTo (s .feed) (s .tables) time News.More)) ≡ false
-unfolding tests lineTests tableTests first onMessage arrives lacksNeed isMore number
+unfolding tests lineTests tableTests first onMessage arrives lacksNeed isTooLong isMore number
 more-answer s time = go (ltb time (s .feed .heard)) (deaf (s .feed .phase))
   where
     go : (a b : Bool) → accepted (number (cond a (Keep 10) (cond b (Keep 11) (Keep 3)))) ≡ false

@@ -3,14 +3,15 @@ use Prim.Native.Nat.{ℕ}
 use mathlib.Core.Path.{_≡_, refl}
 use mathlib.Core.Bool.{Bool, false, true≢false}
 use mathlib.Core.List.{List, [], _∷_}
-use lib.Dec.{T}
-use Rattle.ground.specs.Choice.{oneOf, all}
+use lib.Dec.{T, ltb}
+use Rattle.ground.specs.Choice.{oneOf, first, all}
 use Rattle.wire.specs.Units.{unitOf}
 use Rattle.wire.specs.declared.Unit.{Unit}
 use Rattle.wire.specs.declared.Unit.the-variants as unit
 use Rattle.ground.proofs.Choices.{first-may, each-has}
-use Rattle.feed.specs.Events.{State, Event, Connect, Arrive, Cut, timeOf, News, news, cutFrom, onMessage}
-use Rattle.feed.specs.Answers.{number, arrives, lacksNeed, isMore, lineTests, tableTests, tests, answerTo, reply}
+use Rattle.feed.specs.Feeds.{deaf}
+use Rattle.feed.specs.Events.{State, Event, Connect, Arrive, Cut, Overrun, timeOf, News, news, cutFrom, onMessage}
+use Rattle.feed.specs.Answers.{number, arrives, lacksNeed, isMore, isTooLong, lineTests, tableTests, tests, answerTo, reply}
 use Rattle.feed.specs.Steps.{act, accepted, usedOf, handed, outcome}
 use Rattle.feed.specs.declared.Answer.{Answer}
 use Rattle.feed.specs.declared.Answer.the-variants.{Keep, Lose, Spoil, Skip, Take}
@@ -21,7 +22,7 @@ among e a = oneOf (number a) (answersTo e)
 
 arrival-listed : (s : State) (bytes : List ℕ) (time : ℕ) (u : Unit)
     → T (oneOf (number (answerTo (s .feed) (s .tables) time (cutFrom bytes u))) (answersTo (Arrive bytes time)))
-unfolding among answersTo oneOf number tests lineTests tableTests all arrives lacksNeed isMore onMessage cutFrom
+unfolding among answersTo oneOf number tests lineTests tableTests all arrives lacksNeed isTooLong isMore onMessage cutFrom
 arrival-listed s bytes time unit.More = first-may (among (Arrive bytes time)) (tests (s .feed) (s .tables) time News.More) (Take 0) tt tt
 arrival-listed s bytes time unit.Heartbeat = first-may (among (Arrive bytes time)) (tests (s .feed) (s .tables) time News.Heartbeat) (Take 0) tt tt
 arrival-listed s bytes time (unit.Message seq internal size) =
@@ -29,11 +30,13 @@ arrival-listed s bytes time (unit.Message seq internal size) =
 
 -- the answer is one that document 01 has for such a call
 pub answer-listed : (s : State) (e : Event) → T (oneOf (outcome s e .given .answer) (answersTo e))
-unfolding outcome handed among answersTo oneOf number tests lineTests tableTests all arrives lacksNeed isMore onMessage news timeOf
+unfolding outcome handed among answersTo oneOf number tests lineTests tableTests first all arrives lacksNeed isTooLong isMore onMessage news timeOf
 answer-listed s (Connect link time) = first-may (among (Connect link time)) (tests (s .feed) (s .tables) time (News.Linked link)) (Take 0) tt tt
 answer-listed s (Arrive bytes time) = arrival-listed s bytes time (unitOf bytes)
 answer-listed s (Cut seq internal m time) =
     first-may (among (Cut seq internal m time)) (tests (s .feed) (s .tables) time (News.Message seq internal m)) (Take 0) tt tt
+answer-listed s (Overrun time) =
+    first-may (among (Overrun time)) ((ltb time (s .feed .heard), Keep 10) ∷ (deaf (s .feed .phase), Keep 11) ∷ []) (Lose 22) tt tt
 
 -- which numbers stand beside which kind of answer
 unfoldable pub proper : Answer → Bool
@@ -54,7 +57,7 @@ Refuses s e made n = accepted n ≡ false → handed (made n) s e ≡ refusal n 
 refuses : (s : State) (e : Event) (a : Answer) → T (proper a) → accepted (number a) ≡ false → handed a s e ≡ refusal (number a) s
 unfolding proper handed Refuses number act usedOf feedRefused oneOf
 refuses s e (Keep n) p = each-has (Refuses s e Keep) keeping (λ h. refl, (λ h. refl, (λ h. refl, (λ h. refl, tt)))) n p
-refuses s e (Lose n) p = each-has (Refuses s e Lose) losing (λ h. refl, (λ h. refl, (λ h. refl, tt))) n p
+refuses s e (Lose n) p = each-has (Refuses s e Lose) losing (λ h. refl, (λ h. refl, (λ h. refl, (λ h. refl, tt)))) n p
 refuses s e (Spoil n) p = each-has (Refuses s e Spoil) spoiling (λ h. refl, (λ h. refl, (λ h. refl, (λ h. refl, tt)))) n p
 refuses s e (Skip n) p = each-has (Refuses s e Skip) (1 ∷ []) (λ h. absurd (true≢false h), tt) n p
 refuses s e (Take n) p = each-has (Refuses s e Take) (2 ∷ 0 ∷ []) (λ h. absurd (true≢false h), (λ h. absurd (true≢false h), tt)) n p

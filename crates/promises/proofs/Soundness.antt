@@ -19,7 +19,7 @@ use Rattle.ladder.proofs.Orders.{all-take, all-drop}
 use Rattle.books.specs.Table.{books, bookIn}
 use Rattle.books.proofs.Frames.{AllSound, books-sound, books-each, cleared-sound, cleared-empty}
 use Rattle.feed.specs.Messages.{kind, statusOf, logonStatus}
-use Rattle.feed.specs.Events.{State, Event, Connect, Arrive, Cut, Message, news, cutFrom}
+use Rattle.feed.specs.Events.{State, Event, Connect, Arrive, Cut, Overrun, Message, news, cutFrom}
 use Rattle.feed.specs.Answers.{unsoundFor, noSlotFor, misfitsFor}
 use Rattle.feed.specs.Steps.{cleared, loggedOn, tablesAfter, does, taken}
 use Rattle.feed.specs.declared.Kind.{Kind}
@@ -113,6 +113,7 @@ unfolding handsBytes news
 bytes-news (Connect link time) h = tt
 bytes-news (Arrive bytes time) h = bytes-cut bytes h (unitOf bytes)
 bytes-news (Cut seq internal m time) h = h
+bytes-news (Overrun time) h = tt
 
 pub bytes-each : (es : List Event) → Bytes es → Each OfBytes es
 unfolding all

@@ -10,8 +10,8 @@ use Rattle.ground.proofs.Bools.{of-T}
 use Rattle.ground.proofs.Choices.{testOf, noneUpto, first-may, first-skips, each-has}
 use Rattle.feed.specs.Messages.{kind, onMarket, tabled, wrongSize, listed}
 use Rattle.feed.specs.Feeds.{inPhase, heardAt, wholeIs}
-use Rattle.feed.specs.Events.{State, Event, News, Linked, More, Heartbeat, Message, news, timeOf, onMessage}
-use Rattle.feed.specs.Answers.{number, arrives, lacksNeed, isMore, isNext, allowed, seen, unsoundFor, noSlotFor, misfitsFor, passed, lineTests, tableTests, tests, answerTo, reply}
+use Rattle.feed.specs.Events.{State, Event, News, Linked, More, Heartbeat, TooLong, Message, news, timeOf, onMessage}
+use Rattle.feed.specs.Answers.{number, arrives, lacksNeed, isMore, isTooLong, isNext, allowed, seen, unsoundFor, noSlotFor, misfitsFor, passed, lineTests, tableTests, tests, answerTo, reply}
 use Rattle.feed.specs.Steps.{onFeed, connected, advanced, taken, act, accepted, handed, outcome}
 use Rattle.feed.specs.declared.Phase.the-variants.{Lost}
 use Rattle.feed.specs.declared.Kind.{Kind}
@@ -63,6 +63,7 @@ abbrev pub OfNews : (List ℕ → Type 0) → News → Type 0
 OfNews P (Linked link) = Unit {0}
 OfNews P More = Unit {0}
 OfNews P Heartbeat = Unit {0}
+OfNews P TooLong = Unit {0}
 OfNews P (Message seq internal m) = P m
 
 abbrev pub Each : (List ℕ → Type 0) → List Event → Type 0
@@ -77,6 +78,7 @@ pub any-news : (n : News) → OfNews Any n
 any-news (Linked link) = tt
 any-news More = tt
 any-news Heartbeat = tt
+any-news TooLong = tt
 any-news (Message seq internal m) = tt
 
 pub any : (es : List Event) → Each Any es
@@ -110,12 +112,14 @@ isTwo (Skip n) = false
 isTwo (Take n) = eqb n 2
 
 pub two-passed : (s : State) (time : ℕ) (n : News) → answerTo (s .feed) (s .tables) time n ≡ Take 2 → T (onMessage (λ seq internal m. passed (kind m)) n)
-unfolding isTwo tests lineTests tableTests all onMessage arrives lacksNeed isMore
+unfolding isTwo tests lineTests tableTests all onMessage arrives lacksNeed isTooLong isMore
 two-passed s time (Linked link) e =
     absurd (subst (λ (a : Answer). T (not (isTwo a))) e (first-may (λ a. not (isTwo a)) (tests (s .feed) (s .tables) time (Linked link)) (Take 0) tt tt))
 two-passed s time More e = absurd (subst (λ (a : Answer). T (not (isTwo a))) e (first-may (λ a. not (isTwo a)) (tests (s .feed) (s .tables) time More) (Take 0) tt tt))
 two-passed s time Heartbeat e =
     absurd (subst (λ (a : Answer). T (not (isTwo a))) e (first-may (λ a. not (isTwo a)) (tests (s .feed) (s .tables) time Heartbeat) (Take 0) tt tt))
+two-passed s time TooLong e =
+    absurd (subst (λ (a : Answer). T (not (isTwo a))) e (first-may (λ a. not (isTwo a)) (tests (s .feed) (s .tables) time TooLong) (Take 0) tt tt))
 two-passed s time (Message seq internal m) e = go (passed (kind m)) refl
   where
     go : (b : Bool) → passed (kind m) ≡ b → T b
@@ -134,6 +138,7 @@ module _ (P : List ℕ → Type 0) (I : State → History → Type 0) (K : Keeps
   on-two s h time (Linked link) p i e = absurd (two-passed s time (Linked link) e)
   on-two s h time More p i e = absurd (two-passed s time More e)
   on-two s h time Heartbeat p i e = absurd (two-passed s time Heartbeat e)
+  on-two s h time TooLong p i e = absurd (two-passed s time TooLong e)
   on-two s h time (Message seq internal m) p i e =
       subst (λ (g : History). I (taken time (Message seq internal m) s) (noteHeard time g))
       (noted (kind m) time m h (of-T (passed (kind m)) (two-passed s time (Message seq internal m) e)))
@@ -144,13 +149,14 @@ module _ (P : List ℕ → Type 0) (I : State → History → Type 0) (K : Keeps
   on-zero s h time (Linked link) p i e = K .link s h link time i
   on-zero s h time More p i e = i
   on-zero s h time Heartbeat p i e = K .beat s h time i
+  on-zero s h time TooLong p i e = i
   on-zero s h time (Message seq internal m) p i e = K .taken s h time seq internal m p (fine s time seq internal m 0 e) i
 
   on-answer : (s : State) (h : History) (time : ℕ) (n : News) → OfNews P n → I s h → (a : Answer) → answerTo (s .feed) (s .tables) time n ≡ a → T (proper a)
       → I (act a time n s) (cond (oneOf (number a) ending) (noteOver h) (cond (eqb (number a) 0) (noteNews n time h) (cond (accepted (number a)) (noteHeard time h) h)))
   unfolding Goes act number proper oneOf
   on-answer s h time n p i (Keep k) e q = each-has (Goes s h time n Keep) keeping (i, (i, (i, (i, tt)))) k q
-  on-answer s h time n p i (Lose k) e q = let l = K .lost s h i in each-has (Goes s h time n Lose) losing (l, (l, (l, tt))) k q
+  on-answer s h time n p i (Lose k) e q = let l = K .lost s h i in each-has (Goes s h time n Lose) losing (l, (l, (l, (l, tt)))) k q
   on-answer s h time n p i (Spoil k) e q = let l = K .spoilt s h i in each-has (Goes s h time n Spoil) spoiling (l, (l, (l, (l, tt)))) k q
   on-answer s h time n p i (Skip k) e q = each-has (Goes s h time n Skip) (1 ∷ []) (K .skipped s h time i, tt) k q
   on-answer s h time n p i (Take k) e q =

@@ -29,7 +29,7 @@ use Rattle.strips.specs.Table.{strips, stripIn}
 use Rattle.strips.specs.Reading.{stripShown, readStrip}
 use Rattle.feed.specs.Messages.{kind, statusOf, logonStatus}
 use Rattle.feed.specs.Feeds.{newGiven}
-use Rattle.feed.specs.Events.{State, Event, Connect, Arrive, Cut, Message, news, timeOf, onMessage}
+use Rattle.feed.specs.Events.{State, Event, Connect, Arrive, Cut, Overrun, Message, news, timeOf, onMessage}
 use Rattle.feed.specs.Answers.{number, tests}
 use Rattle.feed.specs.Steps.{accepted, outcome}
 use Rattle.feed.specs.declared.Answer.{Answer}
@@ -197,6 +197,7 @@ unfoldable pub handsBytes : Event → Bool
 handsBytes (Connect link time) = true
 handsBytes (Arrive bytes time) = bytesOnly bytes
 handsBytes (Cut seq internal m time) = bytesOnly m
+handsBytes (Overrun time) = true
 
 abbrev pub Bytes : List Event → Type 0
 Bytes es = T (all handsBytes es)
@@ -248,17 +249,18 @@ Green =
     (limit : ℕ) (n : Sizes) (es : List Event) (time : ℕ)
     → isGreen (endOf limit n es) time ≡ green (tale limit n es) (start limit n .feed .limit) time
 
--- THE MORNING OF THE INCIDENT. After a lost message (or any arrival answered 12 to 18) the badge is not green at any time,
+-- THE MORNING OF THE INCIDENT. After a lost message (or any arrival answered 12 to 18 or 22) the badge is not green at any time,
 -- whatever comes, as long as no connect is accepted
 abbrev pub isConnect : Event → Bool
 isConnect (Connect link time) = true
 isConnect (Arrive bytes time) = false
 isConnect (Cut seq internal m time) = false
+isConnect (Overrun time) = false
 
 unfoldable pub connects : Event × ℕ → Bool
 connects p = accepted (p .1) && isConnect (p .0)
 
--- an event answered 12 to 18
+-- an event answered 12 to 18 or 22
 abbrev pub Fails : ℕ → Sizes → List Event → Event → Type 0
 Fails limit n es e = T (oneOf (answerOf (endOf limit n es) e) ending)
 

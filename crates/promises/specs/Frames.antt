@@ -181,8 +181,8 @@ FramesSound =
     → (all sound (slotsIn books (endActs limit n acts .tables .books)) ≡ true)
     × (all strip.sound (slotsIn strips (endActs limit n acts .tables .strips)) ≡ true)
 
--- THE MORNING OF THE INCIDENT. After a frame whose last answer is 12 to 18 the badge is not green at any time, whatever comes, in frames or not, as long
--- as no connect is accepted
+-- THE MORNING OF THE INCIDENT. After a frame whose last answer is 12 to 18 or 22 the badge is not green at any time, whatever comes, in frames or not,
+-- as long as no connect is accepted
 abbrev pub FrameStaysDark : Type 0
 FrameStaysDark =
     (limit : ℕ) (n : Sizes) (acts : List Act) (bytes : List ℕ) (allowed moment : ℕ) (more : List Act) (time : ℕ)

@@ -15,7 +15,7 @@ use Rattle.books.specs.Table.{books, misfit}
 use Rattle.strips.specs.Table.{strips}
 use Rattle.feed.specs.Messages.{kind, wrongSize, listed, statusOf, logonStatus, lastInternal}
 use Rattle.feed.specs.Feeds.{badgeNo, badgeOf}
-use Rattle.feed.specs.Events.{Event, Connect, News, Linked, More, Heartbeat, Message, news, timeOf}
+use Rattle.feed.specs.Events.{Event, Connect, News, Linked, More, Heartbeat, TooLong, Message, news, timeOf}
 use Rattle.feed.specs.Answers.{lastSeqNum}
 use Rattle.feed.specs.Steps.{accepted}
 use Rattle.feed.specs.declared.Kind.{Kind}
@@ -104,6 +104,7 @@ unfoldable pub fairNews : Sizes → Talk → ℕ → News → Bool
 fairNews slots w time (Linked link) = false
 fairNews slots w time More = false
 fairNews slots w time Heartbeat = true
+fairNews slots w time TooLong = false
 fairNews slots w time (Message seq internal m) =
     eqb seq (w .next) && leb seq lastSeqNum && not (wrongSize m) && listed (kind m) m && due (kind m) (w .stage) internal m
     && good slots w time (kind m) internal m
@@ -138,6 +139,7 @@ unfoldable pub saidNews : News → ℕ → Talk → Talk
 saidNews (Linked link) time w = w
 saidNews More time w = w
 saidNews Heartbeat time w = spoken (w .next) time w
+saidNews TooLong time w = w
 saidNews (Message seq internal m) time w = spoken (w .next + 1) time (says (kind m) time internal m w)
 
 -- a conversation of whole units, each at its time

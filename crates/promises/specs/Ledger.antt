@@ -4,7 +4,7 @@ use mathlib.Core.Bool.{Bool, true, false, cond, not, _&&_}
 use mathlib.Core.List.{List, [], _∷_, _++_}
 use lib.Dec.{ltb, leb, eqb}
 use Rattle.feed.specs.Messages.{kind, statusOf, logonStatus, lastInternal}
-use Rattle.feed.specs.Events.{State, Event, News, Linked, More, Heartbeat, Message, news}
+use Rattle.feed.specs.Events.{State, Event, News, Linked, More, Heartbeat, TooLong, Message, news}
 use Rattle.feed.specs.Steps.{accepted}
 use Rattle.feed.specs.declared.Kind.{Kind}
 use Rattle.feed.specs.declared.Kind.the-variants.{Session, Market}
@@ -56,7 +56,7 @@ completes i l = record { came = l .came; met = l .met; base = i; numbers = l .nu
 abbrev pub takes : ℕ → Ledger → Ledger
 takes i l = record { came = l .came; met = l .met; base = l .base; numbers = l .numbers ++ (i ∷ []); whole = l .whole }
 
--- Live, by the history: an accepted logon, its refresh complete, and neither a logout nor an arrival answered 12 to 18 since
+-- Live, by the history: an accepted logon, its refresh complete, and neither a logout nor an arrival answered 12 to 18 or 22 since
 abbrev pub isLive : History → Bool
 isLive h = h .up && not (h .owed) && not (h .over)
 
@@ -83,6 +83,7 @@ unfoldable pub enterAccepted : Bool → News → History → Ledger → Ledger
 enterAccepted seen (Linked link) h l = forget l
 enterAccepted seen More h l = l
 enterAccepted seen Heartbeat h l = l
+enterAccepted seen TooLong h l = l
 enterAccepted seen (Message seq internal m) h l = meets seq (cond seen l (enterTaken (kind m) internal m h l))
 
 -- whatever is answered but 10
@@ -90,6 +91,7 @@ unfoldable pub enterCame : ℕ → News → Ledger → Ledger
 enterCame n (Linked link) l = l
 enterCame n More l = l
 enterCame n Heartbeat l = l
+enterCame n TooLong l = l
 enterCame n (Message seq internal m) l = cond (eqb n 10) l (sees seq l)
 
 -- the ledger after one event more, answered n, where h is the history before it

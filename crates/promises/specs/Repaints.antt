@@ -182,6 +182,7 @@ sameEvents (e ∷ es) [] = false
 sameEvents (Arrive bytes time ∷ es) (b ∷ bs) = sameWords bytes (b .0) && eqb time (b .1) && sameEvents es bs
 sameEvents (Event.Connect link time ∷ es) (b ∷ bs) = false
 sameEvents (Event.Cut seq internal m time ∷ es) (b ∷ bs) = false
+sameEvents (Event.Overrun time ∷ es) (b ∷ bs) = false
 
 unfoldable pub writes : String → List ℕ → ℕ → List (List ℕ × ℕ) → Check
 writes name bytes allowed told = record { name = name; holds = sameEvents (singles allowed bytes 20 (both (fed Live) held free)) told }

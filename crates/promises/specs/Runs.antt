@@ -12,7 +12,7 @@ use Rattle.strips.specs.Table as strip
 use Rattle.strips.specs.declared.Strip.{Strip}
 use Rattle.feed.specs.Messages.{kind, statusOf, logonStatus}
 use Rattle.feed.specs.Feeds.{newGiven, badgeNo, badgeOf}
-use Rattle.feed.specs.Events.{Tables, State, Event, News, Linked, More, Heartbeat, Message, news, timeOf}
+use Rattle.feed.specs.Events.{Tables, State, Event, News, Linked, More, Heartbeat, TooLong, Message, news, timeOf}
 use Rattle.feed.specs.Steps.{isFresh, tablesAfter, accepted, outcome}
 use Rattle.feed.specs.declared.Kind.{Kind}
 use Rattle.feed.specs.declared.Kind.the-variants.{Session, Market}
@@ -63,7 +63,7 @@ pub record History : Type 0 where
   pub up : Bool
   -- that logon called for a refresh, which is not complete
   pub owed : Bool
-  -- an accepted logout, or an arrival answered 12 to 18, has come since that connect
+  -- an accepted logout, or an arrival answered 12 to 18 or 22, has come since that connect
   pub over : Bool
   -- the time of the last connect or arrival accepted with 0, 1 or 2
   pub heard : ℕ
@@ -118,9 +118,10 @@ unfoldable pub noteNews : News → ℕ → History → History
 noteNews (Linked link) time h = noteConnect link time h
 noteNews More time h = h
 noteNews Heartbeat time h = noteHeard time h
+noteNews TooLong time h = h
 noteNews (Message seq internal m) time h = noteHeard time (noteTaken (kind m) time m h)
 
--- the history after one event more, answered n: 12 to 18; 0; 1 or 2; anything else
+-- the history after one event more, answered n: 12 to 18 or 22; 0; 1 or 2; anything else
 unfoldable pub note : History → Event → ℕ → History
 note h e n =
     cond (oneOf n ending) (noteOver h)
@@ -149,6 +150,7 @@ isGreen s time = eqb (badgeNo (badgeOf (s .feed) time)) 1
 
 -- "green exactly when the last accepted connect has led to an accepted logon, with its refresh complete if one was called for, no accepted logout
 -- and no arrival answered 12 to 18 has come since, and the time asked about lies from zero to the silence limit after the last connect or arrival accepted"
+-- (document 02, request 5: or 22)
 unfoldable pub green : History → ℕ → ℕ → Bool
 green h limit time = h .up && not (h .owed) && not (h .over) && leb (h .heard) time && leb time (h .heard + limit)
 

@@ -1,6 +1,6 @@
 -- What each conversion makes of what its calls gave. Assumes nothing.
 use Prim.Native.Nat.{ℕ}
-use mathlib.Core.Path.{_≡_, ap}
+use mathlib.Core.Path.{_≡_, ap, _∙_}
 use mathlib.Core.Bool.{Bool, true, false}
 use mathlib.Core.List.{List}
 use borrow.Author.Needs.{needs}
@@ -15,8 +15,13 @@ use Rattle.feed.specs.declared.Link.the-variants.{Fresh, Resuming}
 use Rattle.feed.specs.declared.Feed.{Feed}
 use Rattle.feed.specs.declared.Given.{Given}
 use Rattle.feed.specs.declared.Frame.{Frame}
-use Rattle.screen.specs.Plain.{yes, bit, linkOf, feedOf, plainFeed, plainGiven, plainOut, plainOutcome, plainFrame, plainFramedOf, plainFramed, plainRow, plainSide, plainStrip}
-use Rattle.screen.specs.Calls.{handsBack, framesBack, Connects}
+use Rattle.ground.specs.Choice.{first}
+use Rattle.lines.specs.Scraps.{hearing, hears, links}
+use Rattle.lines.specs.declared.Line.{Line}
+use Rattle.lines.specs.declared.Linked.{Linked}
+use Rattle.lines.specs.declared.Heard.{Heard}
+use Rattle.screen.specs.Plain.{yes, bit, linkOf, feedOf, plainFeed, plainGiven, plainOut, plainOutcome, plainFrame, plainFramedOf, plainFramed, lineOf, plainLine, plainHeard, plainHearing, plainHears, plainRow, plainSide, plainStrip}
+use Rattle.screen.specs.Calls.{handsBack, framesBack, Connects, linksBack, linkedBack, plainSilent, hearsBack}
 use Rattle.books.specs.declared.RowRead.{RowRead}
 use Rattle.books.specs.declared.SideRead.{SideRead}
 use Rattle.strips.specs.declared.StripRead.{StripRead}
@@ -26,6 +31,10 @@ use Rattle.screen.specs.declared.MmdhStrip.{MmdhStrip}
 use Rattle.screen.specs.declared.MmdhFeed.{MmdhFeed}
 use Rattle.screen.specs.declared.MmdhGiven.{MmdhGiven}
 use Rattle.screen.specs.declared.MmdhFrame.{MmdhFrame}
+use Rattle.screen.specs.declared.MmdhLine.{MmdhLine}
+use Rattle.screen.specs.declared.MmdhLinked.{MmdhLinked}
+use Rattle.screen.specs.declared.MmdhHeard.{MmdhHeard}
+use lib.ListN.{length}
 
 pub not-yes : (n : ℕ) → n ≡ 0 → false ≡ yes n
 unfolding yes
@@ -88,6 +97,49 @@ pub frame-plain : (c : MmdhFeed) (f : Feed) (x y : Tables) (bytes : List ℕ) (a
 unfolding framesBack
 frame-plain c f x y bytes allowed time g r z a q h = rw (ne-eqb allowed 0 z, h, ← a) (ap plainFramed q)
 
+-- lines
+pub as-line : (l : MmdhLine) (f : Feed) (d : Bool) → f ≡ feedOf (l .feed) → d ≡ yes (l .dropping) → _≡_ {A = Line} (record { feed = f; held = l .held; dropping = d }) (lineOf l)
+as-line l f d a b = rw (a, b)
+
+pub as-plain-line : (l : Line) (f : MmdhFeed) (d : ℕ) → f ≡ plainFeed (l .feed) → d ≡ bit (l .dropping)
+    → _≡_ {A = MmdhLine} (record { feed = f; held = l .held; dropping = d }) (plainLine l)
+as-plain-line l f d a b = rw (a, b)
+
+pub as-heard : (x : Heard) (l : MmdhLine) (s : ℕ) → l ≡ plainLine (x .line) → s ≡ bit (x .said)
+    → _≡_ {A = MmdhHeard} (record { said = s; answer = x .answer; accepted = x .accepted; used = x .used; line = l }) (plainHeard x)
+as-heard x l s a b = rw (a, b)
+
+module _ (c : MmdhLine) (l : Line) (hold : List ℕ) (resuming time : ℕ) (link : Link) (r : Linked) (a : l ≡ lineOf c) (b : link ≡ linkOf resuming)
+    (e : (x : Tables) → r ≡ links (outcome (record { feed = l .feed; tables = x }) (Connect link time) .given) l hold) (x : Tables) where
+  abbrev Back : MmdhLinked → Type 0
+  Back q = q ≡ linksBack c hold (outcome (record { feed = feedOf (c .feed); tables = x }) (Connect (linkOf resuming) time) .given)
+
+  same : r ≡ links (outcome (record { feed = feedOf (c .feed); tables = x }) (Connect (linkOf resuming) time) .given) (lineOf c) hold
+  same = e x ∙ (λ i. links (outcome (record { feed = a i .feed; tables = x }) (Connect (b i) time) .given) (a i) hold)
+
+  pub link-made : (m : MmdhLine) → r .answer ≡ 0 → m ≡ plainLine (r .line) → Back (record { answer = 0; line = m })
+  unfolding linkedBack
+  link-made m z h = rw (← same, eq-eqb (r .answer) 0 z, h)
+
+  pub link-refused : (r .answer ≡ 0 → ⊥) → Back (record { answer = r .answer; line = c })
+  unfolding linkedBack
+  link-refused z = rw (← same, ne-eqb (r .answer) 0 z)
+
+module _ (c : MmdhLine) (x : Tables) (hold scrap : List ℕ) (allowed time : ℕ) where
+  pub scrap-none : allowed ≡ 0 → plainHearing (record { said = 0; answer = 0; accepted = 0; used = 0; line = c }) x hold ≡ hearsBack c x hold scrap allowed time
+  unfolding hearsBack first
+  scrap-none z = rw (eq-eqb allowed 0 z)
+
+  module _ (z : allowed ≡ 0 → ⊥) (d : Bool) (e : d ≡ yes (c .dropping)) where
+    pub scrap-dropped : d ≡ true → plainHearing (record { said = 0; answer = 0; accepted = 0; used = length scrap; line = c }) x hold ≡ hearsBack c x hold scrap allowed time
+    unfolding hearsBack first
+    scrap-dropped h = rw (ne-eqb allowed 0 z, ← e, h)
+
+    pub scrap-plain : (l : Line) (y : Tables) (left : List ℕ) (g : Heard) (r : MmdhHeard) → d ≡ false → l ≡ lineOf c
+        → hearing g y left ≡ hears l x hold scrap allowed time → r ≡ plainHeard g → plainHearing r y left ≡ hearsBack c x hold scrap allowed time
+    unfolding hearsBack first
+    scrap-plain l y left g r h a q p = rw (ne-eqb allowed 0 z, ← a, ← e, h, p) (ap plainHears q)
+
 pub row-plain : (x r : RowRead) → r ≡ x → _≡_ {A = MmdhRow} (record { answer = r .answer; price = r .price; quantity = r .quantity; orders = r .orders }) (plainRow x)
 row-plain x r e = ap plainRow e
 
@@ -112,4 +164,4 @@ pub strip-plain : (x r : StripRead) → r ≡ x
     (plainStrip x)
 strip-plain x r e = ap plainStrip e
 
-pub ruleset cases = (needs, not-yes, is-yes, bit-one, bit-none, link-fresh, link-resuming, as-feed, as-plain, as-given, new-plain, connect-plain, arrive-plain, as-frame, frame-none, frame-plain, row-plain, side-plain, strip-plain)
+pub ruleset cases = (needs, not-yes, is-yes, bit-one, bit-none, link-fresh, link-resuming, as-feed, as-plain, as-given, new-plain, connect-plain, arrive-plain, as-frame, frame-none, frame-plain, as-line, as-plain-line, as-heard, link-made, link-refused, scrap-none, scrap-dropped, scrap-plain, row-plain, side-plain, strip-plain)

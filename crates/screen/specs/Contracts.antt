@@ -5,13 +5,17 @@ use mathlib.Core.List.{List}
 use Rattle.books.specs.Reading.{readRow, readSide}
 use Rattle.strips.specs.Reading.{readStrip}
 use Rattle.feed.specs.Feeds.{newGiven, plainBadge}
-use Rattle.feed.specs.Events.{Tables}
+use Rattle.feed.specs.Events.{Tables, Connect}
+use Rattle.feed.specs.Steps.{stateOf, outcome}
 use Rattle.feed.specs.Reasons.{plainWhy}
-use Rattle.screen.specs.Plain.{plainGiven, plainOut, plainFramedOf, plainRow, plainSide, plainStrip, version}
-use Rattle.screen.specs.Calls.{Connects, Arrives, ArrivesCut, handsBack, framesBack}
+use Rattle.screen.specs.Plain.{plainGiven, plainOut, plainFramedOf, linkOf, feedOf, plainHearing, plainRow, plainSide, plainStrip, version}
+use Rattle.screen.specs.Calls.{Connects, Arrives, ArrivesCut, handsBack, framesBack, linksBack, hearsBack}
 use Rattle.screen.specs.declared.MmdhFeed.{MmdhFeed}
 use Rattle.screen.specs.declared.MmdhGiven.{MmdhGiven}
 use Rattle.screen.specs.declared.MmdhFrame.{MmdhFrame}
+use Rattle.screen.specs.declared.MmdhLine.{MmdhLine}
+use Rattle.screen.specs.declared.MmdhLinked.{MmdhLinked}
+use Rattle.screen.specs.declared.MmdhHeard.{MmdhHeard}
 use Rattle.screen.specs.declared.MmdhRow.{MmdhRow}
 use Rattle.screen.specs.declared.MmdhSide.{MmdhSide}
 use Rattle.screen.specs.declared.MmdhStrip.{MmdhStrip}
@@ -34,6 +38,14 @@ CutSays feed x seq internal m time r after = plainOut r after ≡ handsBack feed
 -- mmdh_arrive_frame
 abbrev pub FrameSays : MmdhFeed → Tables → List ℕ → ℕ → ℕ → MmdhFrame → Tables → Type 0
 FrameSays feed x bytes allowed time r after = plainFramedOf r after ≡ framesBack feed x bytes allowed time
+
+-- mmdh_line_connect: it is lent no words, so it is said with all of them
+abbrev pub LinkSays : MmdhLine → List ℕ → ℕ → ℕ → MmdhLinked → Type 0
+LinkSays line hold resuming time r = (x : Tables) → r ≡ linksBack line hold (outcome (stateOf (feedOf (line .feed)) x) (Connect (linkOf resuming) time) .given)
+
+-- mmdh_line_scrap: with every byte of the buffer
+abbrev pub ScrapSays : MmdhLine → Tables → List ℕ → List ℕ → ℕ → ℕ → MmdhHeard → Tables → List ℕ → Type 0
+ScrapSays line x hold scrap allowed time r after left = plainHearing r after left ≡ hearsBack line x hold scrap allowed time
 
 -- mmdh_badge
 abbrev pub BadgeSays : ℕ → ℕ → ℕ → ℕ → ℕ → Type 0

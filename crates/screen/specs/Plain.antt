@@ -1,6 +1,7 @@
 -- Feeds, and what calls hand back, as the numbers of the C calls. Assumes nothing.
 use Prim.Native.Nat.{ℕ}
 use mathlib.Core.Bool.{Bool, cond, not}
+use mathlib.Core.List.{List}
 use lib.Dec.{eqb}
 use Rattle.books.specs.declared.RowRead.{RowRead}
 use Rattle.books.specs.declared.SideRead.{SideRead}
@@ -14,9 +15,14 @@ use Rattle.feed.specs.declared.Link.the-variants.{Fresh, Resuming}
 use Rattle.feed.specs.declared.Feed.{Feed}
 use Rattle.feed.specs.declared.Given.{Given}
 use Rattle.feed.specs.declared.Frame.{Frame}
+use Rattle.lines.specs.Scraps.{Hearing}
+use Rattle.lines.specs.declared.Line.{Line}
+use Rattle.lines.specs.declared.Heard.{Heard}
 use Rattle.screen.specs.declared.MmdhFeed.{MmdhFeed}
 use Rattle.screen.specs.declared.MmdhGiven.{MmdhGiven}
 use Rattle.screen.specs.declared.MmdhFrame.{MmdhFrame}
+use Rattle.screen.specs.declared.MmdhLine.{MmdhLine}
+use Rattle.screen.specs.declared.MmdhHeard.{MmdhHeard}
 use Rattle.screen.specs.declared.MmdhRow.{MmdhRow}
 use Rattle.screen.specs.declared.MmdhSide.{MmdhSide}
 use Rattle.screen.specs.declared.MmdhStrip.{MmdhStrip}
@@ -82,6 +88,27 @@ plainFramedOf r x = record { frame = r; tables = x }
 
 abbrev pub plainFramed : Framed → PlainFramed
 plainFramed o = plainFramedOf (plainFrame (o .frame)) (o .tables)
+
+-- a line of any numbers, and back; what a scrap hands back, with every word of every table and every byte of the buffer after it
+abbrev pub lineOf : MmdhLine → Line
+lineOf l = record { feed = feedOf (l .feed); held = l .held; dropping = yes (l .dropping) }
+
+abbrev pub plainLine : Line → MmdhLine
+plainLine l = record { feed = plainFeed (l .feed); held = l .held; dropping = bit (l .dropping) }
+
+abbrev pub plainHeard : Heard → MmdhHeard
+plainHeard r = record { said = bit (r .said); answer = r .answer; accepted = r .accepted; used = r .used; line = plainLine (r .line) }
+
+pub record PlainHearing : Type 0 where
+  pub heard : MmdhHeard
+  pub tables : Tables
+  pub hold : List ℕ
+
+abbrev pub plainHearing : MmdhHeard → Tables → List ℕ → PlainHearing
+plainHearing r x hold = record { heard = r; tables = x; hold = hold }
+
+abbrev pub plainHears : Hearing → PlainHearing
+plainHears y = plainHearing (plainHeard (y .heard)) (y .tables) (y .hold)
 
 abbrev pub plainRow : RowRead → MmdhRow
 plainRow r = record { answer = r .answer; price = r .price; quantity = r .quantity; orders = r .orders }

@@ -1,8 +1,8 @@
 // The library by plain C calls, for the screens: numbers, structs of numbers by value, and slices as pointer and length.
 ghost use mathlib.Core.Path.{_≡_};
-ghost use Rattle.screen.specs.Contracts.{NewSays, ConnectSays, ArriveSays, FrameSays, CutSays, BadgeSays, WhySays, RowSays, SideSays, StripSays, VersionSays};
+ghost use Rattle.screen.specs.Contracts.{NewSays, ConnectSays, ArriveSays, FrameSays, CutSays, LinkSays, ScrapSays, BadgeSays, WhySays, RowSays, SideSays, StripSays, VersionSays};
 ghost use Rattle.feed.specs.Steps.{lent};
-ghost use Rattle.screen.specs.Plain.{yes, bit, linkOf, feedOf, plainFeed, plainGiven, plainFrame};
+ghost use Rattle.screen.specs.Plain.{yes, bit, linkOf, feedOf, plainFeed, plainGiven, plainFrame, lineOf, plainLine, plainHeard};
 use books::Level;
 use books::RowRead;
 use feed::Feed;
@@ -10,6 +10,8 @@ use feed::Frame;
 use feed::Given;
 use feed::Link;
 use ladder::DEPTH;
+use lines::Heard;
+use lines::Line;
 
 // A feed as numbers: the phase from 0 to 6 in document 01's order, and whole and fresh as 0 (no) or anything else (yes).
 #[repr(C)]
@@ -38,6 +40,31 @@ pub struct MmdhFrame {
     pub accepted: u64,
     pub used: u64,
     pub feed: MmdhFeed,
+}
+
+// A line as numbers: its feed, how many bytes wait at the front of its holding buffer, and whether it drops as 0 (no) or anything else (yes).
+#[repr(C)]
+pub struct MmdhLine {
+    pub feed: MmdhFeed,
+    pub held: u64,
+    pub dropping: u64,
+}
+
+// What a line's connect hands back: the answer, and the line after it.
+#[repr(C)]
+pub struct MmdhLinked {
+    pub answer: u64,
+    pub line: MmdhLine,
+}
+
+// What a scrap hands back: whether there is an answer, the last one, how many units were accepted, the bytes of the scrap used, and the line after it.
+#[repr(C)]
+pub struct MmdhHeard {
+    pub said: u64,
+    pub answer: u64,
+    pub accepted: u64,
+    pub used: u64,
+    pub line: MmdhLine,
 }
 
 // What reading a row gives.
@@ -170,6 +197,50 @@ fn plain_frame(x: Frame) -> MmdhFrame
     }
 }
 
+// The line of some numbers.
+fn line_of(l: MmdhLine) -> Line
+    ensures { λ r. ⌜ r ≡ lineOf l ⌝ }
+{
+    let f = l.feed;
+    let feed = feed_of(f);
+    let dropping = is_yes(l.dropping);
+    Line {
+        feed,
+        held: l.held as usize,
+        dropping,
+    }
+}
+
+// The numbers of a line.
+fn plain_line(l: Line) -> MmdhLine
+    ensures { λ r. ⌜ r ≡ plainLine l ⌝ }
+{
+    let f = l.feed;
+    let feed = plain_feed(f);
+    let dropping = bit_of(l.dropping);
+    MmdhLine {
+        feed,
+        held: l.held as u64,
+        dropping,
+    }
+}
+
+// The numbers of what a scrap hands back.
+fn plain_heard(x: Heard) -> MmdhHeard
+    ensures { λ r. ⌜ r ≡ plainHeard x ⌝ }
+{
+    let l = x.line;
+    let line = plain_line(l);
+    let said = bit_of(x.said);
+    MmdhHeard {
+        said,
+        answer: x.answer,
+        accepted: x.accepted,
+        used: x.used as u64,
+        line,
+    }
+}
+
 // A new feed with a silence limit in milliseconds: 19 outside 1 to 600,000.
 #[no_mangle]
 pub extern "C" fn mmdh_new(limit: u64) -> MmdhGiven
@@ -237,6 +308,62 @@ pub extern "C" fn mmdh_arrive_cut(
     ensures { λ r. ⌜ CutSays feed (lent (now (books .entry)) (now (strips .entry))) seq internal (now (message .entry)) time r (lent (now (books .exit)) (now (strips .exit))) ⌝ }
 {
     plain_given(feed_of(feed).arrive_cut(books, strips, seq, internal, message, time))
+}
+
+// A line's connect, with its holding buffer: fresh where `resuming` is 0, else resuming. Where it is refused the line comes back as it was handed in.
+#[no_mangle]
+pub extern "C" fn mmdh_line_connect(
+    line: MmdhLine,
+    hold: &[u8],
+    resuming: u64,
+    time: u64,
+) -> MmdhLinked
+    ensures { λ r. ⌜ LinkSays line (now (hold .entry)) resuming time r ⌝ }
+{
+    let linked = line_of(line).connect(hold, link_of(resuming), time);
+    if linked.answer == 0 {
+        let l = linked.line;
+        let line = plain_line(l);
+        return MmdhLinked { answer: 0, line };
+    }
+    MmdhLinked {
+        answer: linked.answer,
+        line,
+    }
+}
+
+// A scrap of a line, of which at most `allowed` units are worked on. With 0 allowed, and where the line drops, it comes back as it was handed in.
+#[no_mangle]
+pub extern "C" fn mmdh_line_scrap(
+    line: MmdhLine,
+    books: &mut [u64],
+    strips: &mut [u64],
+    hold: &mut [u8],
+    scrap: &[u8],
+    allowed: u64,
+    time: u64,
+) -> MmdhHeard
+    ensures { λ r. ⌜ ScrapSays line (lent (now (books .entry)) (now (strips .entry))) (now (hold .entry)) (now (scrap .entry)) allowed time r (lent (now (books .exit)) (now (strips .exit))) (now (hold .exit)) ⌝ }
+{
+    if allowed == 0 {
+        return MmdhHeard {
+            said: 0,
+            answer: 0,
+            accepted: 0,
+            used: 0,
+            line,
+        };
+    }
+    if is_yes(line.dropping) {
+        return MmdhHeard {
+            said: 0,
+            answer: 0,
+            accepted: 0,
+            used: scrap.len() as u64,
+            line,
+        };
+    }
+    plain_heard(line_of(line).scrap(books, strips, hold, scrap, allowed, time))
 }
 
 // A row by code, side and rank.
