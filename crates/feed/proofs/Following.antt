@@ -67,7 +67,7 @@ whole-news s unit.More h = absurd (h refl)
 whole-news s unit.Heartbeat h = refl
 whole-news s (unit.Message q i n) h = refl
 
-whole-answered : (x : State) (s : List ℕ) (time : ℕ) → (unitOf s ≡ unit.More → ⊥) → outcome x (Arrive s time) .given .answer ≡ 3 → ⊥
+pub whole-answered : (x : State) (s : List ℕ) (time : ℕ) → (unitOf s ≡ unit.More → ⊥) → outcome x (Arrive s time) .given .answer ≡ 3 → ⊥
 unfolding outcome handed timeOf news
 whole-answered x s time h e = three-wants (x .feed) (x .tables) time (cutFrom s (unitOf s)) (whole-news s (unitOf s) h) e
 

@@ -1,21 +1,21 @@
 -- What has come, seen through a holding buffer: what each test of the code settles, and what stays when bytes follow. Assumes nothing.
-use Prim.Native.Nat.{ℕ, _+_, _-_, _≤_, _<_}
+use Prim.Native.Nat.{ℕ, _+_, _-_, _≤_, _<_, max}
 use native.Mathlib.Omega.{arith}
 use mathlib.Core.Path.{_≡_, refl, sym, ap, _∙_}
 use mathlib.Core.Bool.{Bool, true, false, cond, not, _&&_, _||_, true≢false}
 use mathlib.Core.List.{List, _++_}
-use lib.ListN.{length, take, drop, getD, List·getD-append}
+use lib.ListN.{length, take, drop, getD, List·getD-append, length-append, take-append-drop}
 use lib.Seq.{length-take-le, getD-append-add, getD-take}
 use lib.Dec.{ltb, leb, eqb}
 use borrow.Author.Needs.{needs}
-use borrow.Author.Tests.{lt-ltb, le-ltb, le-leb, lt-leb, eq-eqb, ne-eqb, ltb-true, ltb-false}
+use borrow.Author.Tests.{lt-ltb, le-ltb, le-leb, lt-leb, eq-eqb, ne-eqb, ltb-true, ltb-false, leb-true}
 use Rattle.wire.specs.Number.{field}
 use Rattle.wire.specs.Units.{seqNum, internalNum, msgSize, unitOf}
 use Rattle.wire.specs.declared.Unit.{Unit}
 use Rattle.wire.specs.declared.Unit.the-variants.{More, Heartbeat, Message}
-use Rattle.ground.proofs.Bools.{split}
-use Rattle.wire.proofs.Fields.{field-drop}
-use Rattle.wire.proofs.Fronts.{unit-fits, heartbeat-fits}
+use Rattle.ground.proofs.Bools.{both, join, no-second, split}
+use Rattle.wire.proofs.Fields.{field-drop, field-append}
+use Rattle.wire.proofs.Fronts.{unit-fits, heartbeat-fits, unit-stays}
 use Rattle.wire.proofs.Cases.{two-bytes}
 use Rattle.lines.specs.Looks.{leastHold, isSized, fullLength, exceeds, finished, look}
 use Rattle.lines.specs.Scraps.{behind}
@@ -120,15 +120,23 @@ module _ (h : List ℕ) (w : ℕ) (p : List ℕ) where
                     let l : length come < 20 + n = rw long (ltb-true (w + length p) (20 + n) (sym e₃ ∙ f₃)) in
                     sym (fits ∙ rw (le-ltb (length come) 20 there, other, le-ltb (length come) 22 sized, says, lt-ltb (length come) (20 + n) l))
 
-                pub whole : b₃ ≡ false → Finished (20 + n) ≡ look room w come
+                pub bare : b₃ ≡ false → n < 2 → Finished 22 ≡ look room w come
                 unfolding unitOf finished
-                whole f₃ =
+                bare f₃ k =
                     let l : 20 + n ≤ length come = rw long (ltb-false (w + length p) (20 + n) (sym e₃ ∙ f₃)) in
-                    sym (fits ∙ rw (le-ltb (length come) 20 there, other, le-ltb (length come) 22 sized, says, le-ltb (length come) (20 + n) l))
+                    let m : max 2 n ≡ 2 = omega arith in
+                    sym (fits ∙ rw (le-ltb (length come) 20 there, other, le-ltb (length come) 22 sized, says, le-ltb (length come) (20 + n) l, m))
+
+                pub whole : b₃ ≡ false → 2 ≤ n → Finished (20 + n) ≡ look room w come
+                unfolding unitOf finished
+                whole f₃ k =
+                    let l : 20 + n ≤ length come = rw long (ltb-false (w + length p) (20 + n) (sym e₃ ∙ f₃)) in
+                    let m : max 2 n ≡ n = omega arith in
+                    sym (fits ∙ rw (le-ltb (length come) 20 there, other, le-ltb (length come) 22 sized, says, le-ltb (length come) (20 + n) l, m))
 
 -- what a unit that has come tells
 abbrev Sized : List ℕ → ℕ → Type 0
-Sized s n = (isSized s ≡ true) × (20 + n ≡ fullLength s)
+Sized s n = (isSized s ≡ true) × (20 + n ≡ fullLength s) × (22 ≤ length s)
 
 -- what the reader said is not something else
 not-message : (q i n : ℕ) → More ≡ Message q i n → ⊥
@@ -150,20 +158,21 @@ message-sized s q i n =
     split P (ltb (length s) 22) _ _ (λ t. m) λ t₃.
     split P (ltb (length s) (fullLength s)) _ _ (λ t. m) λ t₄ e.
     let z : msgSize (drop 20 s) ≡ n = cc in
-    (rw (le-leb 22 (length s) (ltb-false (length s) 22 t₃), t₂), rw z)
+    (rw (le-leb 22 (length s) (ltb-false (length s) 22 t₃), t₂), rw z, ltb-false (length s) 22 t₃)
 
 -- and what is wanted where more bytes are
 data Wanting (s : List ℕ) : Type 0 where
-  few : length s < 22 → Wanting s
+  short : length s < 20 → Wanting s
+  few : length s < 22 → eqb (field 0 2 s) 20 ≡ false → Wanting s
   torn : isSized s ≡ true → length s < fullLength s → Wanting s
 
 more-wanting : (s : List ℕ) → unitOf s ≡ More → Wanting s
 unfolding unitOf isSized
 more-wanting s =
     let P : Unit → Type 0 = λ u. u ≡ More → Wanting s in
-    split P (ltb (length s) 20) _ _ (λ t e. few (let l = ltb-true (length s) 20 t in omega arith)) λ t₁.
+    split P (ltb (length s) 20) _ _ (λ t e. short (ltb-true (length s) 20 t)) λ t₁.
     split P (eqb (field 0 2 s) 20) _ _ (λ t e. absurd (beat-not-more e)) λ t₂.
-    split P (ltb (length s) 22) _ _ (λ t e. few (ltb-true (length s) 22 t)) λ t₃.
+    split P (ltb (length s) 22) _ _ (λ t e. few (ltb-true (length s) 22 t) t₂) λ t₃.
     split P (ltb (length s) (fullLength s)) _ _
     (λ t e. torn (rw (le-leb 22 (length s) (ltb-false (length s) 22 t₃), t₂)) (ltb-true (length s) (fullLength s) t))
     (λ t e. absurd (not-message (seqNum s) (internalNum s) (msgSize (drop 20 s)) (sym e)))
@@ -200,12 +209,13 @@ module _ (r w : ℕ) (s : List ℕ) where
       let p = spared r w s Waits e (λ z. let z : _≡_ {A = ℕ} 0 1 = cc in omega arith) in
       (p .held, go p (unitOf s) refl (p .unit))
     where
-      short : Spared r w s Waits → Wanting s → length s ≤ r
-      short p (few l) = omega (arith, p .least)
-      short p (torn z l) = omega (arith, p .full z)
+      has-room : Spared r w s Waits → Wanting s → length s ≤ r
+      has-room p (short l) = omega (arith, p .least)
+      has-room p (few l z) = omega (arith, p .least)
+      has-room p (torn z l) = omega (arith, p .full z)
 
       go : Spared r w s Waits → (u : Unit) → unitOf s ≡ u → finished u ≡ Waits → length s ≤ r
-      go p More h f = short p (more-wanting s h)
+      go p More h f = has-room p (more-wanting s h)
       go p Heartbeat h f = let z : _≡_ {A = ℕ} 0 1 = cc in omega arith
       go p (Message q i n) h f = let z : _≡_ {A = ℕ} 0 1 = cc in omega arith
 
@@ -220,10 +230,129 @@ module _ (r w : ℕ) (s : List ℕ) where
           let l = heartbeat-fits s h in
           (p .held, omega (arith, p .least), omega arith, omega arith)
       go p (Message q i k) h f =
-          let z : 20 + k ≡ n = cc in
+          let z : 20 + max 2 k ≡ n = cc in
           let l = unit-fits s q i k h in
           let m = message-sized s q i k h in
-          (p .held, omega (arith, p .full (m .0), m .1), omega arith, omega arith)
+          (p .held, omega (arith, p .full (m .0), m .1, p .least), omega (arith, m .2), omega arith)
+
+-- the bytes of a finished unit are a whole unit by themselves
+heartbeat-says : (s : List ℕ) → unitOf s ≡ Heartbeat → eqb (field 0 2 s) 20 ≡ true
+unfolding unitOf
+heartbeat-says s =
+    let P : Unit → Type 0 = λ u. u ≡ Heartbeat → eqb (field 0 2 s) 20 ≡ true in
+    let m : P More = λ e. absurd (beat-not-more (sym e)) in
+    split P (ltb (length s) 20) _ _ (λ t. m) λ t₁.
+    split P (eqb (field 0 2 s) 20) _ _ (λ t e. t) λ t₂.
+    split P (ltb (length s) 22) _ _ (λ t. m) λ t₃.
+    split P (ltb (length s) (fullLength s)) _ _ (λ t. m) λ t₄ e. absurd (not-beat (seqNum s) (internalNum s) (msgSize (drop 20 s)) (sym e))
+
+sized-long : (s : List ℕ) → isSized s ≡ true → 22 ≤ length s
+unfolding isSized
+sized-long s e = leb-true 22 (length s) (both (leb 22 (length s)) (not (eqb (field 0 2 s) 20)) e .0)
+
+field-taken : (at k n : ℕ) (s : List ℕ) → n ≤ length s → at + k ≤ n → field at k (take n s) ≡ field at k s
+field-taken at k n s h l =
+    sym (field-append at k (take n s) (drop n s) (rw (length-take-le n s h) l)) ∙ ap (field at k) (take-append-drop n s)
+
+module _ (n : ℕ) (s : List ℕ) (h : n ≤ length s) where
+  at-n : length (take n s) ≡ n
+  at-n = length-take-le n s h
+
+  full-taken : 22 ≤ n → fullLength (take n s) ≡ fullLength s
+  full-taken l = rw (field-drop 0 2 20 (take n s), field-drop 0 2 20 s, field-taken 20 2 n s h l)
+
+  whole-by : (u : Unit) → unitOf s ≡ u → finished u ≡ Finished n → Wanting (take n s) → ⊥
+  unfolding finished
+  whole-by More e f w = let z : _≡_ {A = ℕ} 0 1 = cc in omega arith
+  whole-by Heartbeat e f (short l) = let z : 20 ≡ n = cc in omega (arith, at-n)
+  whole-by Heartbeat e f (few l z) =
+      let k : 20 ≡ n = cc in
+      true≢false (sym (heartbeat-says s e) ∙ sym (ap (λ (i : ℕ). eqb i 20) (field-taken 0 2 n s h (omega arith))) ∙ z)
+  whole-by Heartbeat e f (torn z l) = let k : 20 ≡ n = cc in omega (arith, at-n, sized-long (take n s) z)
+  whole-by (Message q i k) e f (short l) = let z : 20 + max 2 k ≡ n = cc in omega (arith, at-n)
+  whole-by (Message q i k) e f (few l y) = let z : 20 + max 2 k ≡ n = cc in omega (arith, at-n)
+  whole-by (Message q i k) e f (torn y l) =
+      let z : 20 + max 2 k ≡ n = cc in
+      let m = message-sized s q i k e in
+      omega (arith, at-n, full-taken (omega arith), m .1)
+
+pub unit-whole : (r w n : ℕ) (s : List ℕ) → look r w s ≡ Finished n → unitOf (take n s) ≡ More → ⊥
+unit-whole r w n s e m =
+    let p = spared r w s (Finished n) e (λ z. let z : _≡_ {A = ℕ} 0 1 = cc in omega arith) in
+    whole-by n s (look-finished r w s n e .2) (unitOf s) refl (p .unit) (more-wanting (take n s) m)
+
+one-more : (p q d u v : Bool) → (p ≡ true → q ≡ true → d ≡ true) → ((p && q) || u || v) ≡ true → (d || u || v) ≡ true
+one-more p q true u v f e = refl
+one-more true true false u v f e = absurd (true≢false (sym (f refl refl)))
+one-more true false false u v f e = e
+one-more false q false u v f e = e
+
+never-long : (u : Unit) → finished u ≡ TooLong → ⊥
+unfolding finished
+never-long More e = let z : _≡_ {A = ℕ} 0 1 = cc in omega arith
+never-long Heartbeat e = let z : _≡_ {A = ℕ} 0 1 = cc in omega arith
+never-long (Message q i n) e = let z : _≡_ {A = ℕ} 0 1 = cc in omega arith
+
+module _ (r w : ℕ) (a b : List ℕ) where
+  longer : length a ≤ length (a ++ b)
+  longer = simp length-append (omega arith)
+
+  sized-stays : isSized a ≡ true → (isSized (a ++ b) ≡ true) × (fullLength (a ++ b) ≡ fullLength a)
+  unfolding isSized
+  sized-stays e =
+      let l = sized-long a (unfold isSized in e) in
+      let m = both (leb 22 (length a)) (not (eqb (field 0 2 a) 20)) e .1 in
+      let f : field 0 2 (a ++ b) ≡ field 0 2 a = field-append 0 2 a b (omega arith) in
+      let g : field 20 2 (a ++ b) ≡ field 20 2 a = field-append 20 2 a b l in
+      (rw (le-leb 22 (length (a ++ b)) (let z = longer in omega arith), f) m, rw (field-drop 0 2 20 (a ++ b), g, field-drop 0 2 20 a))
+
+  exceeds-stays : exceeds r w a ≡ true → exceeds r w (a ++ b) ≡ true
+  unfolding exceeds
+  exceeds-stays e =
+      one-more (isSized a) (ltb r (fullLength a)) (isSized (a ++ b) && ltb r (fullLength (a ++ b))) (ltb r 22) (ltb r w)
+      (λ p q. join (isSized (a ++ b)) (ltb r (fullLength (a ++ b))) (sized-stays p .0) (rw (sized-stays p .1) q)) e
+
+  long-stays : look r w a ≡ TooLong → look r w (a ++ b) ≡ TooLong
+  unfolding look
+  long-stays e = go (exceeds r w a) refl e
+    where
+      go : (c : Bool) → exceeds r w a ≡ c → cond c TooLong (finished (unitOf a)) ≡ TooLong → cond (exceeds r w (a ++ b)) TooLong (finished (unitOf (a ++ b))) ≡ TooLong
+      go true h e = rw (exceeds-stays h)
+      go false h e = absurd (never-long (unitOf a) e)
+
+  module _ (n : ℕ) (e : look r w a ≡ Finished n) where
+    kept : Spared r w a (Finished n)
+    kept = spared r w a (Finished n) e (λ z. let z : _≡_ {A = ℕ} 0 1 = cc in omega arith)
+
+    no-more : (u : Unit) → finished u ≡ Finished n → u ≡ More → ⊥
+    unfolding finished
+    no-more u f m = let z : Waits ≡ Finished n = rw m at f in let y : _≡_ {A = ℕ} 0 1 = cc in omega arith
+
+    beat-unsized : unitOf a ≡ Heartbeat → isSized (a ++ b) ≡ false
+    unfolding isSized
+    beat-unsized h =
+        let l = heartbeat-fits a h in
+        let q : field 0 2 (a ++ b) ≡ field 0 2 a = field-append 0 2 a b (omega arith) in
+        no-second (leb 22 (length (a ++ b))) (not (eqb (field 0 2 (a ++ b)) 20)) (rw (q, heartbeat-says a h))
+
+    within : (u : Unit) → unitOf a ≡ u → finished u ≡ Finished n → (isSized (a ++ b) && ltb r (fullLength (a ++ b))) ≡ false
+    within More h f = absurd (no-more More f refl)
+    within Heartbeat h f = ap (λ (c : Bool). c && ltb r (fullLength (a ++ b))) (beat-unsized h)
+    within (Message q i k) h f =
+        let m = message-sized a q i k h in
+        let z = sized-stays (m .0) in
+        no-second (isSized (a ++ b)) (ltb r (fullLength (a ++ b))) (rw (z .1) (le-ltb r (fullLength a) (kept .full (m .0))))
+
+    finished-stays : look r w (a ++ b) ≡ Finished n
+    unfolding look exceeds
+    finished-stays =
+        rw (within (unitOf a) refl (kept .unit), le-ltb r 22 (kept .least), le-ltb r w (kept .held), unit-stays a b (no-more (unitOf a) (kept .unit))) (kept .unit)
+
+-- what is asked for stays when bytes follow, unless it is to wait
+pub look-stays : (r w : ℕ) (a b : List ℕ) (v : Look) → look r w a ≡ v → (v ≡ Waits → ⊥) → look r w (a ++ b) ≡ v
+look-stays r w a b TooLong e k = long-stays r w a b e
+look-stays r w a b Waits e k = absurd (k refl)
+look-stays r w a b (Finished n) e k = finished-stays r w a b n e
 
 -- fewer bytes than n
 pub lacks-none : (w k n : ℕ) → n ≤ w → false ≡ ltb (w + k) n

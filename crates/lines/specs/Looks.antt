@@ -1,5 +1,5 @@
 -- What has come, seen through a lent holding buffer (document 02, request 5). Assumes nothing.
-use Prim.Native.Nat.{ℕ, _+_}
+use Prim.Native.Nat.{ℕ, _+_, max}
 use mathlib.Core.Bool.{Bool, cond, not, _&&_, _||_}
 use mathlib.Core.List.{List}
 use lib.ListN.{length, drop}
@@ -26,11 +26,11 @@ fullLength s = headerSize + msgSize (drop headerSize s)
 unfoldable pub exceeds : ℕ → ℕ → List ℕ → Bool
 exceeds room held s = (isSized s && ltb room (fullLength s)) || ltb room leastHold || ltb room held
 
--- a unit is finished where the reader would not say More
+-- a unit is finished where the reader would not say More: a heartbeat at 20 bytes; a message with MsgSize's two bytes there, also where it is 0 or 1
 unfoldable pub finished : Unit → Look
 finished More = Waits
 finished Heartbeat = Finished headerSize
-finished (Message seq internal size) = Finished (headerSize + size)
+finished (Message seq internal size) = Finished (headerSize + max sizeSize size)
 
 -- what the bytes ask for: to wait for more; 22, "as soon as that is known"; a unit of so many bytes goes through the feed
 unfoldable pub look : ℕ → ℕ → List ℕ → Look

@@ -76,5 +76,8 @@ pub(crate) fn look_at(hold: &[u8], held: usize, scrap: &[u8]) -> Look
     if lacks(held, left, wire::HEADER_BYTES + size) {
         return Look::Waits;
     }
+    if size < 2 {
+        return Look::Finished(LEAST_HOLD);
+    }
     Look::Finished(wire::HEADER_BYTES + size)
 }

@@ -15,6 +15,9 @@ pub mod Leaves
 pub mod Decisions
 pub mod Pieces
 pub mod Frames
+pub mod Scraps
+pub mod Flows
+pub mod Cuts
 pub mod Contracts
 pub mod Why
 pub mod Ends

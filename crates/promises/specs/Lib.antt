@@ -24,5 +24,6 @@ pub mod Leaves
 pub mod Decisions
 pub mod Pieces
 pub mod Frames
+pub mod Scraps
 pub mod Why
 pub mod Sides
