@@ -18,7 +18,7 @@ use Rattle.feed.specs.Frames.{Framed, framedOf, opened, onward, through, framed
 use Rattle.feed.specs.declared.Feed.{Feed}
 use Rattle.feed.proofs.Framing.{Well, Ill, walk, onward-ends, through-fits, counted-all, counted-fewer, goes-on, has-ended, ended, further, through-further}
 use Rattle.promises.specs.Refusals.{answersTo, ending, refusal}
-use Rattle.promises.specs.Runs.{zeroed, start, after, run, answerOf, trace, endOf, tale, isGreen, green, replay}
+use Rattle.promises.specs.Runs.{Sizes, zeroed, start, after, run, answerOf, trace, endOf, tale, isGreen, green, replay}
 use Rattle.promises.specs.Ledger.{upTo, lastOf}
 use Rattle.promises.specs.NoHole.{kept}
 use Rattle.promises.specs.Demands.{Bytes, handsBytes, connects}
@@ -323,29 +323,33 @@ unfolding runActs afterAct
 ends-on acts bytes allowed moment more s =
     runs-on acts (AtOnce bytes allowed moment ∷ more) s ∙ writtenOut (stateIn (framed (runActs s acts) bytes allowed moment)) more
 
-pub frameStaysDark : F.FrameStaysDark
+-- after events whose last answer is 12 to 18 or 22 the badge is not green, whatever comes, as long as no connect is accepted
+pub dark-after : (limit : ℕ) (n : Sizes) (before es rest : List Event) (time : ℕ) → T (oneOf (lastOf 0 (answersIn (trace (endOf limit n before) es))) ending)
+    → T (all (λ p. not (connects p)) (trace (run (endOf limit n before) es) rest)) → isGreen (run (run (endOf limit n before) es) rest) time ≡ false
 unfolding run
+dark-after limit n before es rest time h c =
+    let s : State = endOf limit n before in
+    let r = last-single es s h in
+    let there : endOf limit n (before ++ r .others) ≡ run s (r .others) = run-append before (r .others) (start limit n) in
+    let gone : after (endOf limit n (before ++ r .others)) (r .event) ≡ run s es =
+    ap (λ (t : State). after t (r .event)) there ∙ sym (run-append (r .others) (r .event ∷ []) s) ∙ ap (run s) (sym (r .parts)) in
+    let fails : T (oneOf (answerOf (endOf limit n (before ++ r .others)) (r .event)) ending) =
+    subst (λ (k : ℕ). T (oneOf k ending)) (sym (r .says) ∙ ap (λ (t : State). answerOf t (r .event)) (sym there)) h in
+    let none : T (all (λ p. not (connects p)) (trace (after (endOf limit n (before ++ r .others)) (r .event)) rest)) =
+    subst (λ (t : State). T (all (λ p. not (connects p)) (trace t rest))) (sym gone) c in
+    let same : run (run s es) rest ≡ endOf limit n ((before ++ r .others) ++ (r .event ∷ rest)) =
+    ap (λ (t : State). run t rest) (sym gone) ∙ sym (run-append (before ++ r .others) (r .event ∷ rest) (start limit n)) in
+    ap (λ (t : State). isGreen t time) same ∙ lostStaysDark limit n (before ++ r .others) (r .event) rest time fails none
+
+pub frameStaysDark : F.FrameStaysDark
 frameStaysDark limit n acts bytes allowed moment more time h c =
     let s : State = runActs (start limit n) acts in
     let lost : Framed = framed s bytes allowed moment in
     let es : List Event = singles allowed bytes moment s in
     let before : List Event = written (start limit n) acts in
     let rest : List Event = written (stateIn lost) more in
-    let answers = ap (λ (x : Framed). x .frame .answer) (frameTells s bytes allowed moment) in
-    let r = last-single es s (subst (λ (k : ℕ). T (oneOf k ending)) answers h) in
-    let there : endOf limit n (before ++ r .others) ≡ run s (r .others) =
-    run-append before (r .others) (start limit n) ∙ ap (λ (t : State). run t (r .others)) (sym (writtenOut (start limit n) acts)) in
-    let gone : after (endOf limit n (before ++ r .others)) (r .event) ≡ stateIn lost =
-    ap (λ (t : State). after t (r .event)) there
-    ∙ sym (run-append (r .others) (r .event ∷ []) s)
-    ∙ ap (run s) (sym (r .parts))
-    ∙ sym (at-once s bytes allowed moment) in
-    let fails : T (oneOf (answerOf (endOf limit n (before ++ r .others)) (r .event)) ending) =
-    subst (λ (k : ℕ). T (oneOf k ending)) (answers ∙ sym (r .says) ∙ ap (λ (t : State). answerOf t (r .event)) (sym there)) h in
-    let none : T (all (λ p. not (connects p)) (trace (after (endOf limit n (before ++ r .others)) (r .event)) rest)) =
-    subst (λ (t : State). T (all (λ p. not (connects p)) (trace t rest))) (sym gone) c in
-    let same : runActs (start limit n) (acts ++ (AtOnce bytes allowed moment ∷ more)) ≡ endOf limit n ((before ++ r .others) ++ (r .event ∷ rest)) =
-    ends-on acts bytes allowed moment more (start limit n)
-    ∙ ap (λ (t : State). run t rest) (sym gone)
-    ∙ sym (run-append (before ++ r .others) (r .event ∷ rest) (start limit n)) in
-    ap (λ (t : State). isGreen t time) same ∙ lostStaysDark limit n (before ++ r .others) (r .event) rest time fails none
+    let there : s ≡ endOf limit n before = writtenOut (start limit n) acts in
+    let gone : stateIn lost ≡ run (endOf limit n before) es = at-once s bytes allowed moment ∙ ap (λ (t : State). run t es) there in
+    let answers = ap (λ (x : Framed). x .frame .answer) (frameTells s bytes allowed moment) ∙ ap (λ (t : State). lastOf 0 (answersIn (trace t es))) there in
+    ap (λ (t : State). isGreen t time) (ends-on acts bytes allowed moment more (start limit n) ∙ ap (λ (t : State). run t rest) gone)
+    ∙ dark-after limit n before es rest time (subst (λ (k : ℕ). T (oneOf k ending)) answers h) (subst (λ (t : State). T (all (λ p. not (connects p)) (trace t rest))) gone c)

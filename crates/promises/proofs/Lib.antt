@@ -18,6 +18,7 @@ pub mod Frames
 pub mod Scraps
 pub mod Flows
 pub mod Cuts
+pub mod Lines
 pub mod Contracts
 pub mod Why
 pub mod Ends

@@ -271,8 +271,8 @@ unfoldable pub lineBytes : LineAct → Bool
 lineBytes (Links hold link time) = true
 lineBytes (Hears hold scrap allowed time) = bytesOnly hold && bytesOnly scrap
 
-abbrev pub LineBytes : Type 0
-LineBytes = (x : Lined) (acts : List LineAct) → T (all lineBytes acts) → Bytes (writtenLine x acts)
+abbrev pub LineWrittenBytes : Type 0
+LineWrittenBytes = (x : Lined) (acts : List LineAct) → T (all lineBytes acts) → Bytes (writtenLine x acts)
 
 -- DEMAND 2 of a line: while the badge is green, every counted message that went through the feed since the connect has been met, in its order, none
 -- left out
