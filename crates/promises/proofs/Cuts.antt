@@ -61,7 +61,7 @@ moved-long w n h a =
     length-append (drop n (take w h)) (drop (length (drop n (take w h))) h) ∙ rw (k, length-drop (w - n) h) (omega arith)
 
 -- where a scrap stands, as one list of bytes: those that wait, and those that are left
-abbrev flow : List (Event × ℕ) → List ℕ → Hearing → Seen
+abbrev pub flow : List (Event × ℕ) → List ℕ → Hearing → Seen
 flow said s y = record {
   said = said;
   state = stateOn (linedIn y);
@@ -180,7 +180,7 @@ module _ (S : List (Event × ℕ)) (s : List ℕ) (t : ℕ) (y : Hearing) (d : y
     drops-is =
         split (λ (k : Kept). k .heard .line .dropping ≡ not (accepted (g .answer))) (accepted (g .answer)) _ _ (λ a. sym (ap not a)) (λ a. sym (ap not a))
 
-    unit-flow : flow (S ++ ((unit, answerOf (at s t y) unit) ∷ [])) s (onward s t y) ≡ told (flow S s y) unit (drop n come)
+    pub unit-flow : flow (S ++ ((unit, answerOf (at s t y) unit) ∷ [])) s (onward s t y) ≡ told (flow S s y) unit (drop n come)
     unfolding told onward
     unit-flow =
         let p = fed (y .heard .line) (y .tables) (y .hold) left t n d e in
@@ -211,7 +211,7 @@ module _ (S : List (Event × ℕ)) (s : List ℕ) (t : ℕ) (y : Hearing) (d : y
     room-kept a =
         rw (hold-long a, held-less a, le-ltb (length (y .hold)) (w - n) (let f = facts .0 in omega arith), le-ltb (length (y .hold)) w (facts .0))
 
-told-waiting : (l : Seen) (e : Event) (r : List ℕ) → accepted (answerOf (l .state) e) ≡ true → told l e r .waiting ≡ r
+pub told-waiting : (l : Seen) (e : Event) (r : List ℕ) → accepted (answerOf (l .state) e) ≡ true → told l e r .waiting ≡ r
 unfolding told
 told-waiting l e r h = rw h
 
@@ -606,5 +606,5 @@ moreAllowed x hold scrap allowed time h = by (x .line .dropping) refl
     by c d = (
       ap (λ (k : ℕ). scrapped x hold scrap k time) more ∙ scrapStops x hold scrap (enough x scrap) (allowed - enough x scrap) time (fewer c d),
       ap (λ (k : ℕ). scrapEvents x hold scrap k time) more
-      ∙ units-ended scrap time (allowed - enough x scrap) (enough x scrap) (opens x hold) (let f = fewer c d in omega (arith, f)),
+          ∙ units-ended scrap time (allowed - enough x scrap) (enough x scrap) (opens x hold) (let f = fewer c d in omega (arith, f)),
     )

@@ -19,6 +19,7 @@ pub mod Scraps
 pub mod Flows
 pub mod Cuts
 pub mod Lines
+pub mod Singles
 pub mod Contracts
 pub mod Why
 pub mod Ends

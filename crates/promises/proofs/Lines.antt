@@ -66,7 +66,7 @@ module _ (x : Lined) (hold : List ℕ) (link : Link) (time : ℕ) where
   abbrev event : Event
   event = Connect link time
 
-  listed : T (oneOf (g .answer) (10 ∷ 20 ∷ 0 ∷ []))
+  pub listed : T (oneOf (g .answer) (10 ∷ 20 ∷ 0 ∷ []))
   unfolding answersTo
   listed = D.listed (stateOn x) event
 
@@ -84,15 +84,15 @@ module _ (x : Lined) (hold : List ℕ) (link : Link) (time : ℕ) where
       each-has (λ n. n ≡ 22 → ⊥) (10 ∷ 20 ∷ 0 ∷ [])
       (λ z. let y : ⊥ = omega (arith, z) in y, (λ z. let y : ⊥ = omega (arith, z) in y, (λ z. let y : ⊥ = omega (arith, z) in y, tt))) (g .answer) listed e
 
-  links-refused : accepted (g .answer) ≡ false → links g (x .line) hold ≡ record { answer = g .answer; line = x .line }
+  pub links-refused : accepted (g .answer) ≡ false → links g (x .line) hold ≡ record { answer = g .answer; line = x .line }
   unfolding links first
   links-refused a = rw a
 
-  links-short : accepted (g .answer) ≡ true → ltb (length hold) 22 ≡ true → links g (x .line) hold ≡ record { answer = 22; line = x .line }
+  pub links-short : accepted (g .answer) ≡ true → ltb (length hold) 22 ≡ true → links g (x .line) hold ≡ record { answer = 22; line = x .line }
   unfolding links first
   links-short a b = rw (a, b)
 
-  links-made : accepted (g .answer) ≡ true → ltb (length hold) 22 ≡ false → links g (x .line) hold ≡ record { answer = g .answer; line = record { feed = g .feed; held = 0; dropping = false } }
+  pub links-made : accepted (g .answer) ≡ true → ltb (length hold) 22 ≡ false → links g (x .line) hold ≡ record { answer = g .answer; line = record { feed = g .feed; held = 0; dropping = false } }
   unfolding links first
   links-made a b = rw (a, b)
 
@@ -253,7 +253,7 @@ lineStaysDark limit n acts hold scrap allowed moment more time h c =
     ∙ dark-after limit n before es rest time (subst (λ (k : ℕ). T (oneOf k ending)) answers h) (subst (λ (s : State). T (all (λ p. not (connects p)) (trace s rest))) gone c)
 
 -- a line that drops
-hears-dropped : (x : Lined) (hold scrap : List ℕ) (allowed time : ℕ) → x .line .dropping ≡ true → linedIn (scrapped x hold scrap allowed time) ≡ x
+pub hears-dropped : (x : Lined) (hold scrap : List ℕ) (allowed time : ℕ) → x .line .dropping ≡ true → linedIn (scrapped x hold scrap allowed time) ≡ x
 hears-dropped x hold scrap zero time d = unfold through in refl
 hears-dropped x hold scrap (suc k) time d = ap linedIn (scrapDropped x hold scrap k time d)
 

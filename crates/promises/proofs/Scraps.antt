@@ -230,6 +230,22 @@ module _ (s : List ℕ) (t : ℕ) where
   unfolding onward
   spoke-state y e p = p .state
 
+  pub spoke-said : (y : Hearing) (e : Event) → SpokeAt y e → onward s t y .heard .said ≡ true
+  unfolding onward
+  spoke-said y e p = p .said
+
+  pub spoke-answer : (y : Hearing) (e : Event) → SpokeAt y e → onward s t y .heard .answer ≡ answerOf (at y) e
+  unfolding onward
+  spoke-answer y e p = p .answer
+
+  pub quiet-state : (y : Hearing) → QuietAt y → at (onward s t y) ≡ at y
+  unfolding onward
+  quiet-state y q = q .state
+
+  pub quiet-said : (y : Hearing) → QuietAt y → onward s t y .heard .said ≡ false
+  unfolding onward
+  quiet-said y q = q .said
+
   pub spoke-taken : (y : Hearing) (e : Event) → SpokeAt y e → accepted (answerOf (at y) e) ≡ true → onward s t y .heard .line .dropping ≡ false
   unfolding onward
   spoke-taken y e p = p .taken
@@ -351,10 +367,11 @@ module _ (s : List ℕ) (t : ℕ) where
     unfolding onward
     off-spoke e p =
         let f : accepted (answerOf (at s t y) e) ≡ false = sym (spoke-goes s t y e p) ∙ o in
-        let r = p .refused f in
-        (λ a. absurd (true≢false (sym (p .said) ∙ a)),
-        λ a b. absurd (true≢false (sym b ∙ ap accepted (p .answer) ∙ f)),
-        λ a b. (all-used (r .0), r .1, r .2))
+        let r = p .refused f in (
+          λ a. absurd (true≢false (sym (p .said) ∙ a)),
+          λ a b. absurd (true≢false (sym b ∙ ap accepted (p .answer) ∙ f)),
+          λ a b. (all-used (r .0), r .1, r .2),
+        )
 
     ends-off : Ends (suc k) y (onward s t y)
     ends-off = by (turnAt s t y)
@@ -371,10 +388,11 @@ module _ (s : List ℕ) (t : ℕ) where
   ends-on : (k : ℕ) (y : Hearing) → On y → y .heard .used ≤ length s → Ends k y (through k s t y)
   ends-on =
       walk s t (λ k y z. On y → y .heard .used ≤ length s → Ends k y z)
-      (λ y o h.
-      (λ a. absurd (true≢false (sym (on-parts y o .0) ∙ a)),
-      λ a b. (let z : y .heard .accepted ≡ y .heard .accepted + 0 = omega arith in z),
-      λ a b. absurd (true≢false (sym (on-parts y o .1) ∙ b))))
+      (λ y o h. (
+        λ a. absurd (true≢false (sym (on-parts y o .0) ∙ a)),
+        λ a b. (let z : y .heard .accepted ≡ y .heard .accepted + 0 = omega arith in z),
+        λ a b. absurd (true≢false (sym (on-parts y o .1) ∙ b)),
+      ))
       (λ k y z e on o h. ends-later k y z e (on e (onward-fits s t y h)))
       (λ k y e o h. ends-off k y h e)
 
@@ -405,7 +423,6 @@ pub scrapWithin : S.ScrapWithin
 scrapWithin x hold scrap allowed time =
     let w = within scrap time allowed (opens x hold) (omega arith) in
     (omega (arith, w .0), w .1)
-
 
 -- every answer of a scrap is one of these: an event that it meets is a finished unit, or what is too long
 abbrev Fine : Hearing → Type 0
