@@ -18,7 +18,7 @@ use Rattle.screen.specs.Calls.{Call, eventOf, handsBack}
 use Rattle.border.specs.Border.{Held, plainStart, plainAfter, plainRun, plainTrace, eventsOf}
 use Rattle.screen.specs.declared.MmdhFeed.{MmdhFeed}
 
-bit-back : (b : Bool) → yes (bit b) ≡ b
+pub bit-back : (b : Bool) → yes (bit b) ≡ b
 unfolding yes bit
 bit-back true = refl
 bit-back false = refl

@@ -1,3 +1,4 @@
 pub mod Border
 pub mod Frames
 pub mod Contracts
+pub mod Lines

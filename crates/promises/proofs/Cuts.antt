@@ -423,7 +423,7 @@ module _ (x : Lined) (hold s : List ℕ) (t : ℕ) where
       by true e true f = absurd (let z : ⊥ = omega (arith, scrapEnds x hold s (x .line .held + length s) t .1 e f, never-reached d) in z)
       by true e false f = scrapEnds x hold s (x .line .held + length s) t .2 e f .0
 
-  no-events : x .line .dropping ≡ true → (k : ℕ) → units (suc k) s t start ≡ []
+  pub no-events : x .line .dropping ≡ true → (k : ℕ) → units (suc k) s t start ≡ []
   no-events d k = units-quiet s t k start (dropped (x .line) (x .tables) hold s t d)
 
   module _ (S : List (Event × ℕ)) where
