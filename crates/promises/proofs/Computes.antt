@@ -31,6 +31,8 @@ use Rattle.feed.specs.Messages as feed-Messages
 use Rattle.feed.specs.Program as feed-Program
 use Rattle.feed.specs.Reasons as feed-Reasons
 use Rattle.feed.specs.Steps as feed-Steps
+use Rattle.lines.specs.Looks as lines-Looks
+use Rattle.lines.specs.Scraps as lines-Scraps
 use Rattle.promises.specs.Answering as promises-Answering
 use Rattle.promises.specs.Build as promises-Build
 use Rattle.promises.specs.Checks as promises-Checks
@@ -49,11 +51,13 @@ use Rattle.promises.specs.Pieces as promises-Pieces
 use Rattle.promises.specs.Refusals as promises-Refusals
 use Rattle.promises.specs.Repaints as promises-Repaints
 use Rattle.promises.specs.Runs as promises-Runs
+use Rattle.promises.specs.Scraps as promises-Scraps
 use Rattle.promises.specs.Section6 as promises-Section6
 use Rattle.promises.specs.Sizes as promises-Sizes
 use Rattle.promises.specs.Statuses as promises-Statuses
 use Rattle.promises.specs.Strips as promises-Strips
 use Rattle.promises.specs.Tables as promises-Tables
+use Rattle.promises.specs.Torn as promises-Torn
 use Rattle.promises.specs.Traps as promises-Traps
 use Rattle.promises.specs.Widths as promises-Widths
 
@@ -177,6 +181,14 @@ unfoldable feed-steps : ℕ
 unfolding feed-Steps.loggedOn feed-Steps.clearsOn feed-Steps.clears feed-Steps.tablesAfter feed-Steps.does feed-Steps.counted feed-Steps.taken feed-Steps.act feed-Steps.usedOf feed-Steps.handed feed-Steps.outcome
 feed-steps = 0
 
+unfoldable lines-looks : ℕ
+unfolding lines-Looks.isSized lines-Looks.exceeds lines-Looks.finished lines-Looks.look
+lines-looks = 0
+
+unfoldable lines-scraps : ℕ
+unfolding lines-Scraps.gathered lines-Scraps.settled lines-Scraps.looked lines-Scraps.once lines-Scraps.onward lines-Scraps.goesOn lines-Scraps.through lines-Scraps.links
+lines-scraps = 0
+
 unfoldable promises-answering : ℕ
 unfolding promises-Answering.oneCall promises-Answering.fed promises-Answering.lost promises-Answering.spoilt promises-Answering.heard promises-Answering.held promises-Answering.broken promises-Answering.taken promises-Answering.fits promises-Answering.misfits promises-Answering.unlisted promises-Answering.both promises-Answering.opens promises-Answering.newFeeds promises-Answering.connects promises-Answering.answers promises-Answering.cuts promises-Answering.order
 promises-answering = 0
@@ -249,6 +261,10 @@ unfoldable promises-runs : ℕ
 unfolding promises-Runs.after promises-Runs.run promises-Runs.trace promises-Runs.noteStatus promises-Runs.noteTaken promises-Runs.noteNews promises-Runs.note promises-Runs.recall promises-Runs.green promises-Runs.perform promises-Runs.replay promises-Runs.performOn promises-Runs.replayOn promises-Runs.performStrip promises-Runs.replayStrip
 promises-runs = 0
 
+unfoldable promises-scraps : ℕ
+unfolding promises-Scraps.due promises-Scraps.meets promises-Scraps.units promises-Scraps.scraps promises-Scraps.onePiece promises-Scraps.isOverrun promises-Scraps.afterLine promises-Scraps.runLine promises-Scraps.lineEvents promises-Scraps.writtenLine promises-Scraps.lineBytes promises-Scraps.onlyScraps
+promises-scraps = 0
+
 unfoldable promises-section6 : ℕ
 unfolding promises-Section6.turns promises-Section6.bidsFrom9730 promises-Section6.offersBefore promises-Section6.offersAfter1 promises-Section6.offersAfter5 promises-Section6.bidsBefore promises-Section6.bidsAfter3 promises-Section6.bidsAfter4 promises-Section6.eightBids promises-Section6.sixBids promises-Section6.section6
 promises-section6 = 0
@@ -269,6 +285,10 @@ unfoldable promises-tables : ℕ
 unfolding promises-Tables.on promises-Tables.refused promises-Tables.firstBid promises-Tables.opened promises-Tables.wipes promises-Tables.other promises-Tables.lengths promises-Tables.slots promises-Tables.three promises-Tables.tenOffers promises-Tables.sounds promises-Tables.row-is promises-Tables.no-row promises-Tables.level promises-Tables.tenBids promises-Tables.tenLevels promises-Tables.side-is promises-Tables.rows
 promises-tables = 0
 
+unfoldable promises-torn : ℕ
+unfolding promises-Torn.rising promises-Torn.own promises-Torn.room promises-Torn.line promises-Torn.torn promises-Torn.shut promises-Torn.sameLine promises-Torn.tells promises-Torn.quietAfter promises-Torn.quiet promises-Torn.says promises-Torn.booked promises-Torn.withStrips promises-Torn.on promises-Torn.scrap promises-Torn.hand promises-Torn.follows promises-Torn.after promises-Torn.book promises-Torn.passed promises-Torn.priced promises-Torn.beaten promises-Torn.lays promises-Torn.waits promises-Torn.byteByByte promises-Torn.singly promises-Torn.tornUnits promises-Torn.mixed promises-Torn.places promises-Torn.numbers promises-Torn.sized promises-Torn.lengths promises-Torn.over promises-Torn.limits promises-Torn.stays promises-Torn.order promises-Torn.silent promises-Torn.finishes promises-Torn.late promises-Torn.refusesOn promises-Torn.refuses promises-Torn.refusals promises-Torn.connect promises-Torn.connects promises-Torn.opening promises-Torn.opened promises-Torn.ran promises-Torn.early promises-Torn.tooLong promises-Torn.gap promises-Torn.again promises-Torn.beat promises-Torn.mornings promises-Torn.dark promises-Torn.spelt promises-Torn.sameSaid promises-Torn.cut promises-Torn.scrapsOf promises-Torn.goodMorning promises-Torn.loggedOn promises-Torn.allGood promises-Torn.cuttings promises-Torn.endsAt promises-Torn.leftOut promises-Torn.noSize promises-Torn.tooEarly promises-Torn.broken
+promises-torn = 0
+
 unfoldable promises-traps : ℕ
 unfolding promises-Traps.traps promises-Traps.mornings promises-Traps.sameLines promises-Traps.prints promises-Traps.example10 promises-Traps.line10 promises-Traps.programs promises-Traps.programs2 promises-Traps.longKey promises-Traps.rooms promises-Traps.asked promises-Traps.badges
 promises-traps = 0
@@ -278,5 +298,5 @@ unfolding promises-Widths.widths
 promises-widths = 0
 
 unfoldable pub computes : ℕ
-unfolding bind ground-choice wire-codes wire-number wire-units slots-code-turns slots-layout slots-slots ladder-code-arrays ladder-code-loading ladder-message ladder-sides ladder-walk ladder-words books-code-rows books-reading books-table strips-code-shapes strips-forms strips-reading strips-table strips-words feed-answers feed-code-judging feed-events feed-feeds feed-frames feed-messages feed-program feed-reasons feed-steps promises-answering promises-build promises-checks promises-decisions promises-demands promises-desk promises-emptied promises-entries promises-frames promises-goodmorning promises-leaves promises-ledger promises-mornings promises-phases promises-pieces promises-refusals promises-repaints promises-runs promises-section6 promises-sizes promises-statuses promises-strips promises-tables promises-traps promises-widths
+unfolding bind ground-choice wire-codes wire-number wire-units slots-code-turns slots-layout slots-slots ladder-code-arrays ladder-code-loading ladder-message ladder-sides ladder-walk ladder-words books-code-rows books-reading books-table strips-code-shapes strips-forms strips-reading strips-table strips-words feed-answers feed-code-judging feed-events feed-feeds feed-frames feed-messages feed-program feed-reasons feed-steps lines-looks lines-scraps promises-answering promises-build promises-checks promises-decisions promises-demands promises-desk promises-emptied promises-entries promises-frames promises-goodmorning promises-leaves promises-ledger promises-mornings promises-phases promises-pieces promises-refusals promises-repaints promises-runs promises-scraps promises-section6 promises-sizes promises-statuses promises-strips promises-tables promises-torn promises-traps promises-widths
 computes = 0

@@ -17,6 +17,7 @@ use Rattle.feed.specs.declared.Phase.the-variants.{WaitKey, WaitLogon, Refreshi
 use Rattle.promises.specs.Traps as Traps
 use Rattle.promises.specs.Mornings as Mornings
 use Rattle.promises.specs.Repaints as Repaints
+use Rattle.promises.specs.Torn as Torn
 use Rattle.promises.proofs.Computes.{computes}
 
 pub desk-hold : wrong Desk.desk ≡ []
@@ -354,3 +355,63 @@ frameScripts-hold = refl
 pub frameMornings-hold : wrong Repaints.mornings ≡ []
 unfolding computes
 frameMornings-hold = refl
+
+pub scrapWaits-hold : wrong Torn.waits ≡ []
+unfolding computes
+scrapWaits-hold = refl
+
+pub scrapSingly-hold : wrong Torn.singly ≡ []
+unfolding computes
+scrapSingly-hold = refl
+
+pub scrapTornUnits-hold : wrong Torn.tornUnits ≡ []
+unfolding computes
+scrapTornUnits-hold = refl
+
+pub scrapPlaces-hold : wrong Torn.places ≡ []
+unfolding computes
+scrapPlaces-hold = refl
+
+pub scrapNumbers-hold : wrong Torn.numbers ≡ []
+unfolding computes
+scrapNumbers-hold = refl
+
+pub scrapLengths-hold : wrong Torn.lengths ≡ []
+unfolding computes
+scrapLengths-hold = refl
+
+pub scrapLimits-hold : wrong Torn.limits ≡ []
+unfolding computes
+scrapLimits-hold = refl
+
+pub scrapOrder-hold : wrong Torn.order ≡ []
+unfolding computes
+scrapOrder-hold = refl
+
+pub scrapLate-hold : wrong Torn.late ≡ []
+unfolding computes
+scrapLate-hold = refl
+
+pub scrapRefusals-hold : wrong Torn.refusals ≡ []
+unfolding computes
+scrapRefusals-hold = refl
+
+pub scrapConnects-hold : wrong Torn.connects ≡ []
+unfolding computes
+scrapConnects-hold = refl
+
+pub scrapMornings-hold : wrong Torn.mornings ≡ []
+unfolding computes
+scrapMornings-hold = refl
+
+pub scrapDark-hold : wrong Torn.dark ≡ []
+unfolding computes
+scrapDark-hold = refl
+
+pub scrapCuttings-hold : wrong Torn.cuttings ≡ []
+unfolding computes
+scrapCuttings-hold = refl
+
+pub scrapBroken-hold : wrong Torn.broken ≡ []
+unfolding computes
+scrapBroken-hold = refl

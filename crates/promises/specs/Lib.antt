@@ -25,5 +25,6 @@ pub mod Decisions
 pub mod Pieces
 pub mod Frames
 pub mod Scraps
+pub mod Torn
 pub mod Why
 pub mod Sides
