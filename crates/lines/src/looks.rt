@@ -20,22 +20,15 @@ fn lacks(held: usize, left: usize, n: usize) -> bool
     left < n - held
 }
 
-// A byte, as a number of 64 bits.
-fn wide(x: u8) -> u64
-    ensures { λ r. ⌜ (r ≡ x) × (r < 256) ⌝ }
-{
-    x as u64
-}
-
 // A byte of them.
 fn byte_at(hold: &[u8], held: usize, scrap: &[u8], at: usize) -> u64
     requires { ⌜ (held ≤ length (now hold)) × (at < held + length (now scrap)) ⌝ }
     ensures { λ r. ⌜ (r ≡ getD (behind held (now (hold .entry)) (now (scrap .entry))) at 0) × (r < 256) ⌝ }
 {
     if at < held {
-        return wide(hold[at]);
+        return wire::wide(hold[at]);
     }
-    wide(scrap[at - held])
+    wire::wide(scrap[at - held])
 }
 
 // The number in two bytes of them.

@@ -34,7 +34,7 @@ pub enum Unit {
 }
 
 // A byte, as a number of 64 bits.
-fn wide(x: u8) -> u64
+pub fn wide(x: u8) -> u64
     ensures { λ r. ⌜ (r ≡ x) × (r < 256) ⌝ }
 {
     x as u64
