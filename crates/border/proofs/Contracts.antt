@@ -4,12 +4,14 @@ use mathlib.Core.Path.{_≡_, sym, ap, _∙_}
 use mathlib.Core.List.{[]}
 use Rattle.feed.specs.Steps.{lent}
 use denote.Ref.{now}
-use Rattle.screen.specs.Plain.{PlainOut, PlainFramed}
+use Rattle.screen.specs.Plain.{PlainOut, PlainFramed, PlainHearing}
 use Rattle.screen.proofs.mmdh_new.Reads as new
 use Rattle.screen.proofs.mmdh_connect.Reads as connect
 use Rattle.screen.proofs.mmdh_arrive.Reads as arrive
 use Rattle.screen.proofs.mmdh_arrive_frame.Reads as arrive-frame
 use Rattle.screen.proofs.mmdh_arrive_cut.Reads as arrive-cut
+use Rattle.screen.proofs.mmdh_line_connect.Reads as line-connect
+use Rattle.screen.proofs.mmdh_line_scrap.Reads as line-scrap
 use Rattle.screen.proofs.mmdh_badge.Reads as badge
 use Rattle.screen.proofs.mmdh_why.Reads as why
 use Rattle.screen.proofs.mmdh_read_row.Reads as read-row
@@ -33,6 +35,12 @@ arrive-frame-asks κs a = tt
 pub arrive-cut-asks : (κs : _) (a : _) → arrive-cut.Asked κs a
 arrive-cut-asks κs a = tt
 
+pub line-connect-asks : (κs : _) (a : _) → line-connect.Asked κs a
+line-connect-asks κs a = tt
+
+pub line-scrap-asks : (κs : _) (a : _) → line-scrap.Asked κs a
+line-scrap-asks κs a = tt
+
 pub badge-asks : (κs : _) (a : _) → badge.Asked κs a
 badge-asks κs a = tt
 
@@ -51,7 +59,7 @@ read-strip-asks κs a = tt
 pub version-asks : (κs : _) (a : _) → version.Asked κs a
 version-asks κs a = tt
 
--- two outcomes are one: the numbers handed back, and where a table is lent every word of it
+-- two outcomes are one: the numbers handed back, and where a table is lent every word of it, and every byte of a holding buffer
 pub new-one : (κs : _) (a : _) (r r′ : _) (x x′ : _) → new.Learnt κs a r x → new.Learnt κs a r′ x′ → r ≡ r′
 new-one κs a r r′ x x′ p q = p ∙ sym q
 
@@ -70,6 +78,14 @@ arrive-frame-one κs a r r′ x x′ p q =
 pub arrive-cut-one : (κs : _) (a : _) (r r′ : _) (x x′ : _) → arrive-cut.Learnt κs a r x → arrive-cut.Learnt κs a r′ x′
     → (r ≡ r′) × (now (x .1 .0) ≡ now (x′ .1 .0)) × (now (x .1 .1 .0) ≡ now (x′ .1 .1 .0))
 arrive-cut-one κs a r r′ x x′ p q = (ap (λ (o : PlainOut). o .given) (p ∙ sym q), ap (λ (o : PlainOut). o .tables .books) (p ∙ sym q), ap (λ (o : PlainOut). o .tables .strips) (p ∙ sym q))
+
+pub line-connect-one : (κs : _) (a : _) (r r′ : _) (x x′ : _) → line-connect.Learnt κs a r x → line-connect.Learnt κs a r′ x′ → r ≡ r′
+line-connect-one κs a r r′ x x′ p q = p (lent [] []) ∙ sym (q (lent [] []))
+
+pub line-scrap-one : (κs : _) (a : _) (r r′ : _) (x x′ : _) → line-scrap.Learnt κs a r x → line-scrap.Learnt κs a r′ x′
+    → (r ≡ r′) × (now (x .1 .0) ≡ now (x′ .1 .0)) × (now (x .1 .1 .0) ≡ now (x′ .1 .1 .0)) × (now (x .1 .1 .1 .0) ≡ now (x′ .1 .1 .1 .0))
+line-scrap-one κs a r r′ x x′ p q =
+    (ap (λ (o : PlainHearing). o .heard) (p ∙ sym q), ap (λ (o : PlainHearing). o .tables .books) (p ∙ sym q), ap (λ (o : PlainHearing). o .tables .strips) (p ∙ sym q), ap (λ (o : PlainHearing). o .hold) (p ∙ sym q))
 
 pub badge-one : (κs : _) (a : _) (r r′ : _) (x x′ : _) → badge.Learnt κs a r x → badge.Learnt κs a r′ x′ → r ≡ r′
 badge-one κs a r r′ x x′ p q = p ∙ sym q
