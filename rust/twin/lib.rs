@@ -1,4 +1,4 @@
-//! Document 01 in plain Rust, with requests 1 to 3 of document 02, written from the documents alone: the same calls over
+//! Document 01 in plain Rust, with requests 1 to 3 and 5 of document 02, written from the documents alone: the same calls over
 //! the same tables of words.
 //! The library is compared with it, answer by answer and word by word.
 
@@ -6,6 +6,7 @@
 #![deny(missing_docs)]
 
 pub mod book;
+pub mod line;
 pub mod slots;
 pub mod strip;
 pub mod tuned;
@@ -53,6 +54,8 @@ pub enum Answer {
     BadLimit = 19,
     /// Resuming without its need.
     CannotResume = 20,
+    /// The holding buffer is too short.
+    TooLong = 22,
 }
 
 impl Answer {
