@@ -1,9 +1,9 @@
-//! Document 01's answers, and the refusals among them.
+//! The answers of documents 01 and 02, and the refusals among them.
 
 use std::error::Error;
 use std::fmt;
 
-/// What a call answers. The numbers are document 01's; more may come.
+/// What a call answers. The numbers are document 01's, 22 is document 02's; more may come.
 ///
 /// ```
 /// use mmdh::Answer;
@@ -48,10 +48,12 @@ pub enum Answer {
     BadLimit,
     /// 20: resuming without a whole table and an internal number to resume from.
     CannotResume,
+    /// 22: a unit is longer than the holding buffer; or a connect with one of fewer than 22 bytes, a header and MsgSize.
+    TooLong,
 }
 
 /// Every answer with its number and its sentence.
-const SENTENCES: [(u64, Answer, &str); 16] = [
+const SENTENCES: [(u64, Answer, &str); 17] = [
     (0, Answer::Taken, "taken"),
     (1, Answer::Seen, "seen before"),
     (2, Answer::Passed, "passed over"),
@@ -68,10 +70,11 @@ const SENTENCES: [(u64, Answer, &str); 16] = [
     (18, Answer::Unsound, "the code's book or strip in the table is not sound"),
     (19, Answer::BadLimit, "the silence limit is outside 1 to 600,000 ms"),
     (20, Answer::CannotResume, "there is nothing whole to resume from"),
+    (22, Answer::TooLong, "the holding buffer is too short"),
 ];
 
 impl Answer {
-    /// Document 01's number.
+    /// The document's number.
     pub fn number(self) -> u64 {
         self.entry().0
     }
@@ -104,7 +107,7 @@ impl Answer {
     pub(crate) fn given(number: u64) -> Answer {
         match Answer::from_number(number) {
             Some(answer) => answer,
-            None => unreachable!("the archive gave {}, which document 01 does not list", number),
+            None => unreachable!("the archive gave {}, which is not listed", number),
         }
     }
 

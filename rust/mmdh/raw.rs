@@ -1,7 +1,7 @@
 //! The C calls as they are: plain numbers in, plain numbers out.
 //!
 //! Every number has an answer, so nothing has to be checked before a call. An unknown phase is handled as Lost;
-//! for `whole`, `fresh` and `resuming` 0 is no and anything else yes.
+//! for `whole`, `fresh`, `dropping` and `resuming` 0 is no and anything else yes.
 
 /// A feed in plain numbers.
 #[repr(C)]
@@ -47,6 +47,44 @@ pub struct MmdhFrame {
     pub used: u64,
     /// The feed after them.
     pub feed: MmdhFeed,
+}
+
+/// A feed whose bytes come in scraps. A new one is a new feed with 0 and 0.
+#[repr(C)]
+#[derive(Clone, Copy, PartialEq, Eq, Debug, Default)]
+pub struct MmdhLine {
+    /// The feed.
+    pub feed: MmdhFeed,
+    /// How many bytes wait at the front of the holding buffer.
+    pub held: u64,
+    /// Whether what comes is dropped: since a refusal, until a connect is accepted.
+    pub dropping: u64,
+}
+
+/// What a connect of a line hands back.
+#[repr(C)]
+#[derive(Clone, Copy, PartialEq, Eq, Debug, Default)]
+pub struct MmdhLinked {
+    /// 0, 10, 20 or 22.
+    pub answer: u64,
+    /// The line after it; refused, as it was handed in.
+    pub line: MmdhLine,
+}
+
+/// What a scrap hands back.
+#[repr(C)]
+#[derive(Clone, Copy, PartialEq, Eq, Debug, Default)]
+pub struct MmdhHeard {
+    /// 1 where the last unit was refused, or was the last that is allowed; 0 where the rest waits or is dropped.
+    pub said: u64,
+    /// That unit's number; 0 where `said` is.
+    pub answer: u64,
+    /// Units accepted.
+    pub accepted: u64,
+    /// Bytes of the scrap used; all of them but where the allowed number was reached.
+    pub used: u64,
+    /// The line after it.
+    pub line: MmdhLine,
 }
 
 /// What reading a row hands back.
@@ -170,6 +208,20 @@ extern "C" {
         len: usize,
         time: u64,
     ) -> MmdhGiven;
+    fn mmdh_line_connect(line: MmdhLine, hold: *const u8, hold_len: usize, resuming: u64, time: u64) -> MmdhLinked;
+    fn mmdh_line_scrap(
+        line: MmdhLine,
+        books: *mut u64,
+        books_len: usize,
+        strips: *mut u64,
+        strips_len: usize,
+        hold: *mut u8,
+        hold_len: usize,
+        scrap: *const u8,
+        scrap_len: usize,
+        allowed: u64,
+        time: u64,
+    ) -> MmdhHeard;
     fn mmdh_read_row(table: *const u64, words: usize, code: u64, side: u64, rank: u64) -> MmdhRow;
     fn mmdh_read_side(table: *const u64, words: usize, code: u64, side: u64) -> MmdhSide;
     fn mmdh_read_strip(strips: *const u64, strips_len: usize, code: u64) -> MmdhStrip;
@@ -224,6 +276,24 @@ pub fn arrive_cut(feed: MmdhFeed, lent: Lent<'_>, seq: u32, internal: u32, messa
     let (at_books, at_strips) = (lent.books.as_mut_ptr(), lent.strips.as_mut_ptr());
     // SAFETY: as for `arrive`, with the message for the bytes.
     unsafe { mmdh_arrive_cut(feed, at_books, books, at_strips, strips, seq, internal, message.as_ptr(), len, time) }
+}
+
+/// A connect of a line, with the holding buffer that its bytes will wait in; `resuming` 0 is fresh.
+#[inline]
+pub fn line_connect(line: MmdhLine, hold: &[u8], resuming: u64, time: u64) -> MmdhLinked {
+    // SAFETY: pointer and length are one slice's; the call writes nothing and keeps nothing.
+    unsafe { mmdh_line_connect(line, hold.as_ptr(), hold.len(), resuming, time) }
+}
+
+/// A scrap has come: at most as many units as are allowed go through the feed, and what is left of it waits in the holding
+/// buffer, behind the bytes that wait there. With 0 allowed, and while the line drops, it comes back as it was handed in.
+#[inline]
+pub fn line_scrap(line: MmdhLine, lent: Lent<'_>, hold: &mut [u8], scrap: &[u8], allowed: u64, time: u64) -> MmdhHeard {
+    let (books, strips, room, len) = (lent.books.len(), lent.strips.len(), hold.len(), scrap.len());
+    let (at_books, at_strips, at_hold) = (lent.books.as_mut_ptr(), lent.strips.as_mut_ptr(), hold.as_mut_ptr());
+    let at = scrap.as_ptr();
+    // SAFETY: as for `arrive`, with the scrap for the bytes; the holding buffer is lent as the tables are.
+    unsafe { mmdh_line_scrap(line, at_books, books, at_strips, strips, at_hold, room, at, len, allowed, time) }
 }
 
 /// Reads a row by code, side (0 bid, 1 offer) and rank (1 to 10).
