@@ -1,14 +1,69 @@
-//! What a script works on: one feed and the tables lent to it, through the C calls.
+//! What a script works on: one feed, the tables and the holding buffer lent to it, through the C calls.
 
 use crate::words::Words;
-use mmdh::raw::{self, Lent, MmdhFeed, MmdhGiven};
+use mmdh::raw::{self, Lent, MmdhFeed, MmdhGiven, MmdhHeard, MmdhLine};
 
-/// One feed, once there is one, and the tables of its books and of their strips.
+/// One feed, once there is one, the tables of its books and of their strips, and what scraps wait in.
 #[derive(Default)]
 pub struct Desk {
     feed: Option<MmdhFeed>,
+    tables: Tables,
+    hold: Option<Hold>,
+    scraps: u64,
+}
+
+/// The tables that are lent.
+#[derive(Clone, Default, PartialEq, Eq)]
+struct Tables {
     books: Vec<u64>,
     strips: Vec<u64>,
+}
+
+impl Tables {
+    fn lend(&mut self) -> Lent<'_> {
+        Lent { books: &mut self.books, strips: &mut self.strips }
+    }
+}
+
+/// A holding buffer, how many bytes wait at its front, and whether what comes is dropped.
+#[derive(Clone, Default, PartialEq, Eq)]
+struct Hold {
+    bytes: Vec<u8>,
+    held: u64,
+    dropping: u64,
+}
+
+/// All that a scrap works on.
+#[derive(Clone, PartialEq, Eq)]
+struct Scrapped {
+    line: MmdhLine,
+    tables: Tables,
+    hold: Vec<u8>,
+}
+
+impl Scrapped {
+    /// One call; the line goes on with what it hands back.
+    fn call(&mut self, scrap: &[u8], allowed: u64, now: u64) -> MmdhHeard {
+        let heard = raw::line_scrap(self.line, self.tables.lend(), &mut self.hold, scrap, allowed, now);
+        self.line = heard.line;
+        heard
+    }
+
+    /// Unit by unit, up to a refusal or what waits; the answers.
+    fn by_units(&mut self, scrap: &[u8], now: u64) -> Vec<u64> {
+        let (mut answers, mut rest) = (Vec::new(), scrap);
+        loop {
+            let heard = self.call(rest, 1, now);
+            if heard.said == 0 {
+                return answers;
+            }
+            answers.push(heard.answer);
+            if heard.answer > 2 {
+                return answers;
+            }
+            rest = &rest[heard.used as usize..];
+        }
+    }
 }
 
 impl Desk {
@@ -16,14 +71,18 @@ impl Desk {
     pub fn run(&mut self, mut words: Words<'_>) -> Result<Option<String>, String> {
         let printed = match words.operation() {
             "table" => self.table(&mut words).map(|()| None),
-            "poke" => poke(&mut self.books, &mut words).map(|()| None),
-            "pokestrip" => poke(&mut self.strips, &mut words).map(|()| None),
+            "poke" => poke(&mut self.tables.books, &mut words).map(|()| None),
+            "pokestrip" => poke(&mut self.tables.strips, &mut words).map(|()| None),
             "feed" => self.made(&mut words).map(|()| None),
             "new" => self.new_feed(&mut words).map(Some),
             "connect" => self.connect(&mut words).map(Some),
             "arrive" => self.arrive(&mut words).map(Some),
             "frame" => self.frame(&mut words).map(Some),
             "cut" => self.cut(&mut words).map(Some),
+            "hold" => self.held(&mut words).map(|()| None),
+            "resize" => self.resize(&mut words).map(|()| None),
+            "hconnect" => self.line_connect(&mut words).map(Some),
+            "scrap" => self.scrap(&mut words).map(Some),
             "badge" => self.badge(&mut words).map(Some),
             "badgec" => badge_of_numbers(&mut words).map(Some),
             "row" => self.row(&mut words).map(Some),
@@ -43,18 +102,13 @@ impl Desk {
             words.length("TAPE")?;
         }
         words.end()?;
-        self.books = vec![0; books];
-        self.strips = vec![0; strips];
+        self.tables = Tables { books: vec![0; books], strips: vec![0; strips] };
         Ok(())
-    }
-
-    fn lend(&mut self) -> Lent<'_> {
-        Lent { books: &mut self.books, strips: &mut self.strips }
     }
 
     /// What is told of each table that is lent.
     fn each_table(&self, told: impl Fn(&[u64]) -> String) -> [String; 2] {
-        [told(&self.books), told(&self.strips)]
+        [told(&self.tables.books), told(&self.tables.strips)]
     }
 
     fn made(&mut self, words: &mut Words<'_>) -> Result<(), String> {
@@ -99,14 +153,14 @@ impl Desk {
     fn arrive(&mut self, words: &mut Words<'_>) -> Result<String, String> {
         let (now, bytes) = (words.number("NOW")?, words.bytes("BYTES")?);
         words.end()?;
-        let given = raw::arrive(self.feed()?, self.lend(), &bytes, now);
+        let given = raw::arrive(self.feed()?, self.tables.lend(), &bytes, now);
         Ok(self.after("arrive", given, true))
     }
 
     fn frame(&mut self, words: &mut Words<'_>) -> Result<String, String> {
         let (now, allowed, bytes) = (words.number("NOW")?, words.number("ALLOWED")?, words.bytes("BYTES")?);
         words.end()?;
-        let frame = raw::arrive_frame(self.feed()?, self.lend(), &bytes, allowed, now);
+        let frame = raw::arrive_frame(self.feed()?, self.tables.lend(), &bytes, allowed, now);
         self.feed = Some(frame.feed);
         Ok(format!("frame {} {} {} {}", frame.answer, frame.accepted, frame.used, numbers(&frame.feed)))
     }
@@ -115,8 +169,69 @@ impl Desk {
         let (now, seq, internal) = (words.number("NOW")?, words.short("SEQ")?, words.short("INTERNAL")?);
         let message = words.bytes("BYTES")?;
         words.end()?;
-        let given = raw::arrive_cut(self.feed()?, self.lend(), seq, internal, &message, now);
+        let given = raw::arrive_cut(self.feed()?, self.tables.lend(), seq, internal, &message, now);
         Ok(self.after("cut", given, false))
+    }
+
+    /// A new holding buffer: nothing waits and nothing is dropped.
+    fn held(&mut self, words: &mut Words<'_>) -> Result<(), String> {
+        let size = words.size("SIZE")?;
+        words.end()?;
+        self.hold = Some(Hold { bytes: vec![0; size], held: 0, dropping: 0 });
+        Ok(())
+    }
+
+    /// A buffer of another length with the same bytes, as far as they have room; as many wait as before.
+    fn resize(&mut self, words: &mut Words<'_>) -> Result<(), String> {
+        let size = words.size("SIZE")?;
+        words.end()?;
+        let mut hold = self.hold()?.clone();
+        hold.bytes.resize(size, 0);
+        self.hold = Some(hold);
+        Ok(())
+    }
+
+    fn hold(&self) -> Result<&Hold, String> {
+        self.hold.as_ref().ok_or_else(|| "there is no holding buffer yet: a line 'hold' comes first".to_string())
+    }
+
+    fn line(&self) -> Result<MmdhLine, String> {
+        let (feed, hold) = (self.feed()?, self.hold()?);
+        Ok(MmdhLine { feed, held: hold.held, dropping: hold.dropping })
+    }
+
+    fn line_connect(&mut self, words: &mut Words<'_>) -> Result<String, String> {
+        let (resuming, now) = (words.number("RESUMING")?, words.number("NOW")?);
+        words.end()?;
+        let bytes = self.hold()?.bytes.clone();
+        let linked = raw::line_connect(self.line()?, &bytes, resuming, now);
+        self.goes_on(linked.line, bytes);
+        Ok(format!("hconnect {} {}", linked.answer, numbers(&linked.line.feed)))
+    }
+
+    /// The line and the buffer after a call.
+    fn goes_on(&mut self, line: MmdhLine, bytes: Vec<u8>) {
+        self.feed = Some(line.feed);
+        self.hold = Some(Hold { bytes, held: line.held, dropping: line.dropping });
+    }
+
+    /// Unit by unit. Every other time all units at once, on copies, must end in the same.
+    fn scrap(&mut self, words: &mut Words<'_>) -> Result<String, String> {
+        let (now, bytes) = (words.number("NOW")?, words.bytes("BYTES")?);
+        words.end()?;
+        let before = Scrapped { line: self.line()?, tables: self.tables.clone(), hold: self.hold()?.bytes.clone() };
+        let mut after = before.clone();
+        let answers = after.by_units(&bytes, now);
+        self.scraps += 1;
+        if self.scraps % 2 == 0 {
+            at_once(before, &bytes, now, &answers, &after)?;
+        }
+        let line = after.line;
+        self.tables = after.tables;
+        self.goes_on(line, after.hold);
+        let listed: Vec<String> = answers.iter().map(u64::to_string).collect();
+        let listed = if listed.is_empty() { "-".to_string() } else { listed.join(",") };
+        Ok(format!("scrap {} {} {} {}", listed, numbers(&line.feed), line.held, line.dropping))
     }
 
     fn badge(&self, words: &mut Words<'_>) -> Result<String, String> {
@@ -129,19 +244,35 @@ impl Desk {
     fn row(&self, words: &mut Words<'_>) -> Result<String, String> {
         let (code, side, rank) = (words.number("CODE")?, words.number("SIDE")?, words.number("RANK")?);
         words.end()?;
-        let row = raw::read_row(&self.books, code, side, rank);
+        let row = raw::read_row(&self.tables.books, code, side, rank);
         Ok(format!("row {} {} {} {}", row.answer, row.price, row.quantity, row.orders))
     }
 
     fn strip(&self, words: &mut Words<'_>) -> Result<String, String> {
         let code = words.number("CODE")?;
         words.end()?;
-        let strip = raw::read_strip(&self.strips, code);
+        let strip = raw::read_strip(&self.tables.strips, code);
         let auction = format!("{} {} {}", strip.nominal, strip.iep, strip.iev);
         let band = format!("{} {} {}", strip.reference, strip.lower, strip.upper);
         let rest = format!("{} {} {}", strip.direction, strip.imbalance, strip.closing);
         Ok(format!("strip {} {} {} {} {}", strip.answer, strip.flags, auction, band, rest))
     }
+}
+
+/// All units of a scrap in one call, where unit by unit they got these answers and ended so.
+fn at_once(mut all: Scrapped, scrap: &[u8], now: u64, answers: &[u64], after: &Scrapped) -> Result<(), String> {
+    let heard = all.call(scrap, u64::MAX, now);
+    let accepted = answers.iter().filter(|&&answer| answer <= 2).count() as u64;
+    let refused = answers.last().copied().filter(|&answer| answer > 2);
+    let wanted = (accepted, refused.is_some(), refused.unwrap_or(0), scrap.len() as u64);
+    let got = (heard.accepted, heard.said != 0, heard.answer, heard.used);
+    if got == wanted && all == *after {
+        return Ok(());
+    }
+    Err(format!(
+        "scrap: in one call it ends elsewhere than unit by unit: (accepted, said, answer, used) {:?} and {:?}, {:?} and {:?}",
+        got, wanted, all.line, after.line
+    ))
 }
 
 fn poke(table: &mut [u64], words: &mut Words<'_>) -> Result<(), String> {

@@ -1,6 +1,6 @@
 //! One line of a script: its operation, and the words behind it read one by one.
 
-/// Most words of a table that a script may ask for.
+/// Most words of a table, and most bytes of a holding buffer, that a script may ask for.
 const LARGEST: u64 = 1 << 24;
 
 /// The words of one line that have not been read yet.
@@ -50,9 +50,18 @@ impl<'a> Words<'a> {
 
     /// A table's length in words.
     pub fn length(&mut self, name: &str) -> Result<usize, String> {
+        self.at_most_largest(name, "words")
+    }
+
+    /// A holding buffer's length in bytes.
+    pub fn size(&mut self, name: &str) -> Result<usize, String> {
+        self.at_most_largest(name, "bytes")
+    }
+
+    fn at_most_largest(&mut self, name: &str, of: &str) -> Result<usize, String> {
         let number = self.number(name)?;
         if number > LARGEST {
-            return Err(format!("{}: {} is above {} words: {}", self.operation, name, LARGEST, number));
+            return Err(format!("{}: {} is above {} {}: {}", self.operation, name, LARGEST, of, number));
         }
         Ok(number as usize)
     }
