@@ -139,7 +139,7 @@ pub struct Frame {
 /// ```
 #[derive(PartialEq, Eq, Debug)]
 pub struct Feed {
-    plain: MmdhFeed,
+    pub(crate) plain: MmdhFeed,
 }
 
 impl Feed {
@@ -298,6 +298,6 @@ impl Feed {
 }
 
 /// The tables' words, for one call.
-fn lent<'a>(tables: &'a mut Tables<'_>) -> Lent<'a> {
+pub(crate) fn lent<'a>(tables: &'a mut Tables<'_>) -> Lent<'a> {
     Lent { books: tables.books.words_mut(), strips: tables.strips.words_mut() }
 }

@@ -41,6 +41,7 @@
 mod answer;
 mod books;
 mod feed;
+mod lent;
 mod line;
 #[allow(unsafe_code)]
 pub mod raw;
@@ -54,12 +55,14 @@ pub use feed::{Badge, Connect, Phase};
 pub use line::{Heard, Line, Unit};
 pub use strips::{Direction, Strip, Strips};
 pub use tables::Tables;
-pub use why::{Closing, Loss, Reason, Why};
+pub use why::{Closing, Dropping, Loss, Reason, Why};
 
-/// Single calls: a feed without its tables and without the bytes not yet used. [`Line`] makes them in the right order;
-/// they are for those who keep tables or bytes in a way of their own.
+/// Single calls: a feed without its tables and without the bytes not yet used, and a line without its tables and its
+/// holding buffer. [`Line`] makes them in the right order; they are for those who keep tables or bytes in a way of their
+/// own.
 pub mod single {
     pub use crate::feed::{Arrival, Feed, Frame};
+    pub use crate::lent::{LentLine, Scrap, LONGEST};
 }
 
 /// The life of a connection.

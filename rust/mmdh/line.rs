@@ -1,8 +1,9 @@
 //! One line: the owner of a feed, of the tables it fills and of the bytes not yet used.
 
-use crate::single::Feed;
-use crate::why::{Closing, Loss, Reason};
+use crate::single::{Feed, LentLine, Scrap, LONGEST};
+use crate::why::{Closing, Dropping, Loss, Reason};
 use crate::{Answer, Badge, Books, Connect, Phase, Refused, Strips, Tables, Why};
+use std::fmt;
 
 const HEADER: usize = 20;
 
@@ -38,10 +39,21 @@ const HEADER: usize = 20;
 /// ```
 #[derive(Debug)]
 pub struct Line {
-    feed: Feed,
+    lent: LentLine,
     tables: Tables<'static>,
-    held: Vec<u8>,
+    hold: Hold,
+    /// Bytes of frames in which the allowed number was reached before them.
+    left: Vec<u8>,
     saw: Saw,
+}
+
+/// The holding buffer; looked at, it is its length.
+struct Hold(Vec<u8>);
+
+impl fmt::Debug for Hold {
+    fn fmt(&self, f: &mut fmt::Formatter<'_>) -> fmt::Result {
+        write!(f, "{} bytes", self.0.len())
+    }
 }
 
 /// What a line saw since its last accepted connect.
@@ -50,6 +62,7 @@ struct Saw {
     units: u64,
     loss: Option<Loss>,
     closing: Option<Closing>,
+    dropping: Option<Dropping>,
     refused: Option<Refused>,
     hung_up: Option<u64>,
 }
@@ -63,6 +76,9 @@ pub struct Heard {
     /// Bytes that wait for the rest of their unit; after a frame in which the allowed number was reached there may be whole
     /// units among them.
     pub waiting: usize,
+    /// Whether the line drops what comes, and so has dropped this piece: a unit was refused before it, and no connect has
+    /// been accepted since. Nothing more is taken, whatever the badge is: connect anew.
+    pub dropping: bool,
 }
 
 /// One accepted unit, as [`Line::hear_each`] shows it.
@@ -85,18 +101,37 @@ pub struct Unit<'a> {
 
 impl Line {
     /// A line that is not connected yet, with a silence limit of 1 to 600,000 ms (else refused with 19) and empty
-    /// books and strips with room for this many codes each, at most 4,096.
+    /// books and strips with room for this many codes each, at most 4,096. Bytes wait for the rest of their unit in a
+    /// holding buffer with room for the longest there is.
     pub fn new(limit: u64, slots: usize) -> Result<Line, Refused> {
-        let feed = Feed::new(limit)?;
-        Ok(Line { feed, tables: Tables::with_slots(slots), held: Vec::new(), saw: Saw::default() })
+        Line::with_hold(limit, slots, LONGEST)
     }
 
-    /// The line has been connected. Bytes that still waited are dropped. Refused with 10 or 20, and then nothing is
-    /// changed.
+    /// The same with a holding buffer of so many bytes. A unit that is longer than it is 22, and loses the line; where it has
+    /// fewer than 22 bytes no connect is accepted.
+    ///
+    /// ```
+    /// use mmdh::{Answer, Connect, Line};
+    /// let mut line = Line::with_hold(1_000, 128, 600)?;
+    /// line.connect(Connect::Fresh, 0)?;
+    /// let mut header = [0; 22];
+    /// header[20..].copy_from_slice(&[0x45, 2]); // a MsgSize of 581
+    /// assert_eq!(line.hear(&header, 0).unwrap_err().answer(), Answer::TooLong);
+    /// assert_eq!(line.reason(0).to_string(), "lost: the holding buffer is too short (answer 22), unit 1, SeqNum 1 expected and 0 met");
+    /// # Ok::<(), mmdh::Refused>(())
+    /// ```
+    pub fn with_hold(limit: u64, slots: usize, bytes: usize) -> Result<Line, Refused> {
+        let (lent, tables) = (LentLine::new(limit)?, Tables::with_slots(slots));
+        Ok(Line { lent, tables, hold: Hold(vec![0; bytes]), left: Vec::new(), saw: Saw::default() })
+    }
+
+    /// The line has been connected. Bytes that still waited are dropped, and those that come are taken again. Refused with 10
+    /// or 20, or with 22 where the holding buffer has fewer than 22 bytes, and then nothing is changed: a line that drops
+    /// goes on dropping.
     pub fn connect(&mut self, kind: Connect, time: u64) -> Result<(), Refused> {
-        match self.feed.connect(kind, time).or_refused() {
+        match self.lent.connect(&self.hold.0, kind, time).or_refused() {
             Ok(_) => {
-                self.held.clear();
+                self.left.clear();
                 self.saw = Saw::default();
                 Ok(())
             }
@@ -126,16 +161,69 @@ impl Line {
 
     /// Bytes have come, in whatever pieces. Every whole unit is worked on, the rest waits.
     ///
-    /// A refusal ends it: with 12 to 18 the line is lost, with 11 it was not open, and what is left is dropped. Only
-    /// with 10, a time before the last heard one, do the bytes wait for a call with a later time; until one comes they
-    /// add up.
+    /// A refusal ends it, and what is left is dropped: with 12 to 18, and with 22, the line is lost; with 11 it was not open;
+    /// with 10 the time lies before the last heard one. 10 and 11 are found when a unit is whole; torn bytes only wait. From
+    /// then on the line drops what comes, without an answer, until a connect is accepted: [`Heard::dropping`] says so,
+    /// [`Line::is_dropping`], and [`Line::reason`], which has the refusal. After 10 the badge stays as it is till the limit
+    /// runs out, so it may be green over bytes that are dropped.
+    ///
+    /// ```
+    /// use mmdh::{Badge, Connect, Line};
+    /// # let key = [24, 0, 0, 0, 1, 0, 0, 0, 0, 0, 0, 0, 0, 0, 0, 0, 0, 0, 0, 0, 4, 0, 0x51, 4];
+    /// # let logon = [28, 0, 0, 0, 2, 0, 0, 0, 0, 0, 0, 0, 0, 0, 0, 0, 0, 0, 0, 0, 8, 0, 0x4E, 4, 0, 0, 0, 0];
+    /// # let heartbeat = [20, 0, 0, 0, 2, 0, 0, 0, 0, 0, 0, 0, 0, 0, 0, 0, 0, 0, 0, 0];
+    /// let mut line = Line::new(1_000, 128)?;
+    /// line.connect(Connect::Fresh, 5_000)?;
+    /// line.hear(&[&key[..], &logon].concat(), 5_000)?;
+    ///
+    /// // a clock that goes back: the heartbeat is refused with 10, and the next one is dropped, though its time is right
+    /// assert_eq!(line.hear(&heartbeat, 4_999).unwrap_err().answer().number(), 10);
+    /// assert!(line.hear(&heartbeat, 5_001)?.dropping);
+    /// assert_eq!((line.badge(6_000), line.badge(6_001)), (Badge::Green, Badge::Stale));
+    /// assert_eq!(
+    ///     line.reason(5_001).to_string(),
+    ///     "live; what comes is dropped since unit 3: the time is before the last heard time (answer 10)"
+    /// );
+    /// line.reconnect(5_002)?;
+    /// assert!(!line.is_dropping());
+    /// # Ok::<(), mmdh::Refused>(())
+    /// ```
     pub fn hear(&mut self, bytes: &[u8], time: u64) -> Result<Heard, Refused> {
-        self.hear_each(bytes, time, |_| {})
+        self.hear_frame(bytes, u64::MAX, time)
     }
 
     /// The same, and each accepted unit is shown.
-    pub fn hear_each(&mut self, bytes: &[u8], time: u64, each: impl FnMut(&Unit<'_>)) -> Result<Heard, Refused> {
-        self.behind_waiting(bytes, |line, bytes| line.take(bytes, time, each))
+    ///
+    /// ```
+    /// use mmdh::{Answer, Connect, Line};
+    /// let mut line = Line::new(1_000, 128)?;
+    /// line.connect(Connect::Fresh, 5_000)?;
+    /// // SendKey in two pieces
+    /// # let key = [24, 0, 0, 0, 1, 0, 0, 0, 0, 0, 0, 0, 0, 0, 0, 0, 0, 0, 0, 0, 4, 0, 0x51, 4];
+    /// let mut shown = Vec::new();
+    /// for piece in key.chunks(13) {
+    ///     line.hear_each(piece, 5_000, |unit| shown.push((unit.number, unit.answer, unit.bytes.to_vec())))?;
+    /// }
+    /// assert_eq!(shown, [(1, Answer::Taken, key.to_vec())]);
+    /// # Ok::<(), mmdh::Refused>(())
+    /// ```
+    pub fn hear_each(&mut self, bytes: &[u8], time: u64, mut each: impl FnMut(&Unit<'_>)) -> Result<Heard, Refused> {
+        self.behind_left(bytes, |line, bytes| {
+            let mut used = 0;
+            loop {
+                let (rest, held) = (&bytes[used..], line.lent.held());
+                let scrap = line.take(rest, 1, time);
+                used += scrap.used;
+                match scrap.said.filter(|answer| answer.is_accepted()) {
+                    None => return (used, scrap.said),
+                    Some(answer) => {
+                        let bytes = if held > 0 { &line.hold.0[..held + scrap.used] } else { &rest[..scrap.used] };
+                        let (number, feed, tables) = (line.saw.units, line.feed(), &line.tables);
+                        each(&Unit { answer, number, bytes, feed, books: &tables.books, strips: &tables.strips });
+                    }
+                }
+            }
+        })
     }
 
     /// Bytes have come, or none, and the screen is to be painted: at most as many units as are allowed are worked on, all in
@@ -143,7 +231,7 @@ impl Line {
     /// waits for the line.
     ///
     /// A refusal ends it as it ends [`Line::hear`], and units that were accepted before it stay so. With 0 allowed nothing
-    /// is refused or heard, whatever the time and the phase: the bytes only wait.
+    /// is refused, heard or dropped, whatever the time and the phase: the bytes only wait.
     ///
     /// ```
     /// use mmdh::{Badge, Connect, Line};
@@ -164,73 +252,56 @@ impl Line {
     /// # Ok::<(), mmdh::Refused>(())
     /// ```
     pub fn hear_frame(&mut self, bytes: &[u8], allowed: u64, time: u64) -> Result<Heard, Refused> {
-        self.behind_waiting(bytes, |line, bytes| line.take_frame(bytes, allowed, time))
+        self.behind_left(bytes, |line, bytes| {
+            let scrap = line.take(bytes, allowed, time);
+            (scrap.used, scrap.said)
+        })
     }
 
-    /// Works on the bytes that wait with these behind them, and keeps what was not used; a refusal other than 10 drops it.
-    fn behind_waiting<F>(&mut self, bytes: &[u8], work: F) -> Result<Heard, Refused>
+    /// Works on the bytes that a frame has left with these behind them, and keeps what is not used; the last answer, if it is
+    /// a refusal, is the end of it.
+    fn behind_left<F>(&mut self, bytes: &[u8], work: F) -> Result<Heard, Refused>
     where
-        F: FnOnce(&mut Line, &[u8]) -> (usize, Option<Refused>),
+        F: FnOnce(&mut Line, &[u8]) -> (usize, Option<Answer>),
     {
-        let mut held = std::mem::take(&mut self.held);
-        let mut waiting = bytes;
-        if !held.is_empty() {
-            held.extend_from_slice(bytes);
-            waiting = &held;
-        }
         let before = self.saw.units;
-        let (used, ended) = work(self, waiting);
-        let keep = ended.map_or(true, |refused| refused.answer() == Answer::Early);
-        let rest = if keep { waiting[used..].to_vec() } else { Vec::new() };
-        self.held = rest;
-        ended.map_or(Ok(Heard { units: self.saw.units - before, waiting: self.held.len() }), Err)
-    }
-
-    /// Unit after unit until one is not whole or is refused; how many bytes were used.
-    fn take(&mut self, bytes: &[u8], time: u64, mut each: impl FnMut(&Unit<'_>)) -> (usize, Option<Refused>) {
-        let mut used = 0;
-        loop {
-            let rest = &bytes[used..];
-            let arrival = self.feed.arrive(&mut self.tables, rest, time);
-            match arrival.answer.or_refused() {
-                Ok(Answer::More) => return (used, None),
-                Ok(answer) => {
-                    let unit = &rest[..arrival.used];
-                    used += arrival.used;
-                    self.accepted(1, || &unit[HEADER..], time);
-                    let (number, feed, tables) = (self.saw.units, &self.feed, &self.tables);
-                    each(&Unit { answer, number, bytes: unit, feed, books: &tables.books, strips: &tables.strips });
-                }
-                Err(refused) => {
-                    self.refused_unit(refused, rest, time);
-                    return (used, Some(refused));
-                }
-            }
-            if used == bytes.len() {
-                return (used, None);
-            }
+        let mut left = std::mem::take(&mut self.left);
+        let said = if left.is_empty() {
+            let (used, said) = work(self, bytes);
+            left.extend_from_slice(&bytes[used..]);
+            said
+        } else {
+            left.extend_from_slice(bytes);
+            let (used, said) = work(self, &left);
+            left.drain(..used);
+            said
+        };
+        self.left = left;
+        match said.map(Answer::or_refused) {
+            Some(Err(refused)) => Err(refused),
+            _ => Ok(Heard { units: self.saw.units - before, waiting: self.waiting(), dropping: self.is_dropping() }),
         }
     }
 
-    /// A frame's units at once; how many bytes were used.
-    fn take_frame(&mut self, bytes: &[u8], allowed: u64, time: u64) -> (usize, Option<Refused>) {
-        let frame = self.feed.arrive_frame(&mut self.tables, bytes, allowed, time);
-        let (units, rest) = bytes.split_at(frame.used);
-        if frame.accepted > 0 {
-            self.accepted(frame.accepted, || last_message(units), time);
+    /// One call over a scrap, and what the line saw in it.
+    fn take(&mut self, scrap: &[u8], allowed: u64, time: u64) -> Scrap {
+        let front = Front::of(&self.hold.0[..self.lent.held()], scrap);
+        let came = self.lent.scrap(&mut self.tables, &mut self.hold.0, scrap, allowed, time);
+        if came.accepted > 0 {
+            self.accepted(came.accepted, || &front.unit(scrap, came.accepted - 1)[HEADER..], time);
         }
-        match frame.answer.or_refused() {
-            // a logout that all bytes end with is accepted, and nothing is asked behind it
-            Err(refused) if frame.accepted == 0 || !rest.is_empty() => {
-                self.refused_unit(refused, rest, time);
-                (frame.used, Some(refused))
-            }
-            _ => (frame.used, None),
+        if let Some(Err(refused)) = came.said.map(Answer::or_refused) {
+            let (answer, unit) = (refused.answer(), self.saw.units + 1);
+            self.saw.dropping = Some(Dropping { answer, unit, time });
+            self.refused_unit(refused, front.unit(scrap, came.accepted), time);
         }
+        came
     }
 
-    /// A message that another box has cut out of its unit, with the two numbers of its header. Refused as in
-    /// [`Line::hear`]; bytes that wait have no part in it.
+    /// A message that another box has cut out of its unit, with the two numbers of its header. It is judged by the feed alone,
+    /// with the answers of [`Line::hear`] but for 22: bytes that wait have no part in it, a line that drops its bytes takes
+    /// it all the same, and its refusal does not make one drop; where it loses the line, the next whole unit is 11. Take a
+    /// connection's messages either in this way or as bytes.
     ///
     /// ```
     /// use mmdh::{Answer, Badge, Connect, Line};
@@ -244,8 +315,8 @@ impl Line {
     /// # Ok::<(), mmdh::Refused>(())
     /// ```
     pub fn hear_cut(&mut self, seq: u32, internal: u32, message: &[u8], time: u64) -> Result<Answer, Refused> {
-        let expected = self.feed.next();
-        let heard = self.feed.arrive_cut(&mut self.tables, seq, internal, message, time).or_refused();
+        let expected = self.feed().next();
+        let heard = self.lent.feed.arrive_cut(&mut self.tables, seq, internal, message, time).or_refused();
         match heard {
             Ok(_) => self.accepted(1, || message, time),
             Err(refused) => self.refused(refused, (expected, seq), message, time),
@@ -256,7 +327,7 @@ impl Line {
     /// Notes units, and by the last one's message what closes the line: behind it none is accepted.
     fn accepted<'a>(&mut self, units: u64, last: impl FnOnce() -> &'a [u8], time: u64) {
         self.saw.units += units;
-        if self.feed.phase() != Phase::Closed {
+        if self.feed().phase() != Phase::Closed {
             return;
         }
         if let Some(message) = last().get(..8) {
@@ -269,7 +340,7 @@ impl Line {
     /// Notes the unit at the front of these bytes that lost the line, if it did; next is still what it was.
     fn refused_unit(&mut self, refused: Refused, bytes: &[u8], time: u64) {
         let met = bytes.get(4..8).and_then(|seq| seq.try_into().ok()).map_or(0, u32::from_le_bytes);
-        self.refused(refused, (self.feed.next(), met), bytes.get(HEADER..).unwrap_or(&[]), time);
+        self.refused(refused, (self.feed().next(), met), bytes.get(HEADER..).unwrap_or(&[]), time);
     }
 
     /// Notes the arrival that lost the line, with the SeqNums expected and met.
@@ -287,12 +358,12 @@ impl Line {
 
     /// What the panels' corners show at a time.
     pub fn badge(&self, time: u64) -> Badge {
-        self.feed.badge(time)
+        self.feed().badge(time)
     }
 
     /// Why the badge is what it is at a time, by the feed alone.
     pub fn why(&self, time: u64) -> Why {
-        self.feed.why(time)
+        self.feed().why(time)
     }
 
     /// Why the badge is what it is at a time, with what the line saw.
@@ -300,10 +371,11 @@ impl Line {
         Reason {
             why: self.why(time),
             time,
-            heard: self.feed.heard(),
-            limit: self.feed.limit(),
+            heard: self.feed().heard(),
+            limit: self.feed().limit(),
             loss: self.saw.loss,
             closing: self.saw.closing,
+            dropping: self.saw.dropping,
             refused: self.saw.refused,
             hung_up: self.saw.hung_up,
         }
@@ -335,17 +407,22 @@ impl Line {
 
     /// The feed, to be looked at.
     pub fn feed(&self) -> &Feed {
-        &self.feed
+        self.lent.feed()
     }
 
-    /// Whether bytes can be taken: connected, and neither lost nor closed since.
+    /// Whether bytes can be taken: connected, and neither lost nor closed since, nor dropping them.
     pub fn is_open(&self) -> bool {
-        self.feed.is_open()
+        self.feed().is_open() && !self.is_dropping()
+    }
+
+    /// Whether what comes is dropped: since a unit was refused, until a connect is accepted. The badge may still be green.
+    pub fn is_dropping(&self) -> bool {
+        self.lent.is_dropping()
     }
 
     /// The InternalSeqNum to log on with: 0 after a fresh connect, else the last internal number.
     pub fn logon_number(&self) -> u64 {
-        self.feed.logon_number()
+        self.feed().logon_number()
     }
 
     /// Units accepted since the last accepted connect, heartbeats too.
@@ -355,19 +432,43 @@ impl Line {
 
     /// Bytes that wait for the rest of their unit, or for the next frame.
     pub fn waiting(&self) -> usize {
-        self.held.len()
+        self.lent.held() + self.left.len()
     }
 }
 
-/// The last message of some whole units; none where that is a heartbeat's.
-fn last_message(mut units: &[u8]) -> &[u8] {
-    loop {
-        let heartbeat = units[..2] == [HEADER as u8, 0];
-        let size = if heartbeat { 0 } else { usize::from(u16::from_le_bytes([units[HEADER], units[HEADER + 1]])) };
-        let (unit, rest) = units.split_at(HEADER + size);
-        if rest.is_empty() {
-            return &unit[HEADER..];
-        }
-        units = rest;
+/// The first bytes that a call works on, those that wait before the scrap's: as many as tell what a unit is and what closes a
+/// line.
+struct Front {
+    bytes: [u8; Front::TOLD],
+    length: usize,
+    waiting: usize,
+}
+
+impl Front {
+    /// A header and a message of eight bytes.
+    const TOLD: usize = HEADER + 8;
+
+    fn of(waiting: &[u8], scrap: &[u8]) -> Front {
+        let mut bytes = [0; Front::TOLD];
+        let first = waiting.len().min(Front::TOLD);
+        let length = (waiting.len() + scrap.len()).min(Front::TOLD);
+        bytes[..first].copy_from_slice(&waiting[..first]);
+        bytes[first..length].copy_from_slice(&scrap[..length - first]);
+        Front { bytes, length, waiting: waiting.len() }
     }
+
+    /// Where a unit begins, counted from 0; those before it were accepted.
+    fn unit<'a>(&'a self, scrap: &'a [u8], number: u64) -> &'a [u8] {
+        if number == 0 {
+            return &self.bytes[..self.length];
+        }
+        let first = &scrap[length(&self.bytes) - self.waiting..];
+        (1..number).fold(first, |rest, _| &rest[length(rest)..])
+    }
+}
+
+/// How long the unit at the front is.
+fn length(unit: &[u8]) -> usize {
+    let heartbeat = unit[..2] == [HEADER as u8, 0];
+    HEADER + if heartbeat { 0 } else { usize::from(u16::from_le_bytes([unit[HEADER], unit[HEADER + 1]])) }
 }

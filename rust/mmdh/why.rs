@@ -83,7 +83,7 @@ impl fmt::Display for Why {
 #[non_exhaustive]
 #[derive(Clone, Copy, PartialEq, Eq, Debug)]
 pub struct Loss {
-    /// Its answer, 12 to 18.
+    /// Its answer, 12 to 18 or 22.
     pub answer: Answer,
     /// The SeqNum that was the next.
     pub expected: u64,
@@ -108,6 +108,18 @@ pub struct Closing {
     /// Which unit it was, counted from 1 since the connect, heartbeats too.
     pub unit: u64,
     /// When it came.
+    pub time: u64,
+}
+
+/// The refusal since which a line drops what comes.
+#[non_exhaustive]
+#[derive(Clone, Copy, PartialEq, Eq, Debug)]
+pub struct Dropping {
+    /// The answer: 10 or 11, which leave the badge as it is, or one that lost the line.
+    pub answer: Answer,
+    /// Which unit got it, counted from 1 since the connect, heartbeats too.
+    pub unit: u64,
+    /// When it came, by the call's time.
     pub time: u64,
 }
 
@@ -146,6 +158,8 @@ pub struct Reason {
     pub loss: Option<Loss>,
     /// The unit that closed the line.
     pub closing: Option<Closing>,
+    /// The refusal since which what comes is dropped, if no connect has been accepted since. The badge may still be green.
+    pub dropping: Option<Dropping>,
     /// The refusal of the last connect, if none has been accepted since.
     pub refused: Option<Refused>,
     /// When the caller said that the line had hung up, if no connect has been accepted since.
@@ -180,6 +194,10 @@ impl fmt::Display for Reason {
             Why::Closed => self.closing.map_or(Ok(()), |closing| write!(f, ": {}", closing))?,
             _ => {}
         }
+        // the others lost the line, and have been told
+        if let Some(dropping) = self.dropping.filter(Dropping::is_beside_loss) {
+            write!(f, "; {}", dropping)?;
+        }
         if let Some(time) = self.hung_up {
             write!(f, "; the line hung up {} ms ago", self.time.saturating_sub(time))?;
         }
@@ -196,6 +214,20 @@ impl fmt::Display for Loss {
         } else {
             write!(f, "SeqNum {} expected and {} met", self.expected, self.met)
         }
+    }
+}
+
+impl Dropping {
+    /// Whether the refusal left the feed as it was: 10 and 11.
+    fn is_beside_loss(&self) -> bool {
+        matches!(self.answer, Answer::Early | Answer::NotOpen)
+    }
+}
+
+impl fmt::Display for Dropping {
+    fn fmt(&self, f: &mut fmt::Formatter<'_>) -> fmt::Result {
+        let (answer, number) = (self.answer, self.answer.number());
+        write!(f, "what comes is dropped since unit {}: {} (answer {})", self.unit, answer, number)
     }
 }
 

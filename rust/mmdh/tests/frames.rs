@@ -279,8 +279,6 @@ fn a_line_keeps_what_is_not_allowed_yet() {
     let heard = line.hear_frame(&bytes[60..], 2, 5_100).expect("accepted");
     assert_eq!((heard.units, heard.waiting, line.units()), (2, 56, 5));
     assert_eq!(line.books().bids(700).expect("a book").len(), 1);
-    assert_eq!(line.hear_frame(&[], 4_999, 5_099).unwrap_err().answer(), Answer::Early);
-    assert_eq!((line.waiting(), line.badge(5_100)), (56, Badge::Green));
     let heard = line.hear_frame(&[], 2, 5_100).expect("accepted");
     assert_eq!((heard.units, heard.waiting), (1, 0));
     assert_eq!(line.books().bids(700).expect("a book").len(), 2);
@@ -290,17 +288,29 @@ fn a_line_keeps_what_is_not_allowed_yet() {
 }
 
 #[test]
+fn a_frame_before_the_last_heard_time_drops_what_waits_for_it() {
+    let mut line = live(5_000);
+    let bytes = [unit(4, 2, &nominal(700, 9_740)), HEARTBEAT.to_vec()].concat();
+    assert_eq!(line.hear_frame(&bytes, 1, 5_100).map(|heard| (heard.units, heard.waiting)), Ok((1, 20)));
+    assert_eq!(line.hear_frame(&[], 1, 5_099).unwrap_err().answer(), Answer::Early);
+    assert_eq!((line.waiting(), line.badge(5_100), line.is_dropping()), (0, Badge::Green, true));
+    let heard = line.hear_frame(&bytes, u64::MAX, 5_200).expect("no answer");
+    assert_eq!((heard.units, heard.waiting, heard.dropping), (0, 0, true));
+}
+
+#[test]
 fn nothing_allowed_is_never_refused() {
     let mut line = Line::new(1_000, 4).expect("listed");
-    assert_eq!(line.hear_frame(&[], 0, 0).map(|heard| heard.units), Ok(0));
+    assert_eq!(line.hear_frame(&HEARTBEAT, 0, 0).map(|heard| (heard.units, heard.waiting)), Ok((0, 20)));
     assert_eq!(line.hear_frame(&[], 1, 0).unwrap_err().answer(), Answer::NotOpen);
     let mut line = live(5_000);
     assert!(line.hear(&unit(9, 9, &bid(5, 1, 9)), 5_000).is_err());
-    assert_eq!(line.hear_frame(&HEARTBEAT, 0, 0).map(|heard| (heard.units, heard.waiting)), Ok((0, 20)));
+    let heard = line.hear_frame(&HEARTBEAT, 0, 0).expect("nothing is refused");
+    assert_eq!((heard.units, heard.waiting, heard.dropping), (0, 20, true));
     assert_eq!((line.why(5_000), line.feed().heard()), (Why::Lost, 5_000));
-    // the next call with a unit allowed finds the line lost, and drops them
-    assert_eq!(line.hear_frame(&[], 1, 5_000).unwrap_err().answer(), Answer::NotOpen);
-    assert_eq!(line.waiting(), 0);
+    // the next call with a unit allowed finds that the line drops, and drops them
+    let heard = line.hear_frame(&[], 1, 5_000).expect("no answer");
+    assert_eq!((heard.waiting, heard.dropping, line.waiting()), (0, true, 0));
 }
 
 #[test]
@@ -321,12 +331,19 @@ fn what_closed_a_line_in_a_frame_is_told() {
         let mut line = live(5_000);
         assert_eq!(line.hear_frame(&bytes, allowed, 5_100).expect("accepted").units, 3);
         assert_eq!((line.reason(5_100).to_string(), line.is_open()), (words.to_string(), false));
-        assert_eq!(line.hear_frame(&[], 1, 5_100).unwrap_err().answer(), Answer::NotOpen);
+        assert_eq!(line.hear_frame(&HEARTBEAT[..19], 1, 5_100).map(|heard| heard.waiting), Ok(19));
+        assert_eq!(line.hear_frame(&HEARTBEAT[19..], 1, 5_100).unwrap_err().answer(), Answer::NotOpen);
     }
     let mut line = live(5_000);
     let behind = [&bytes[..], &HEARTBEAT].concat();
     assert_eq!(line.hear_frame(&behind, 4, 5_100).unwrap_err().answer(), Answer::NotOpen);
-    assert_eq!((line.reason(5_100).to_string(), line.units()), (words.to_string(), 6));
+    assert!(line.reason(5_100).to_string().starts_with(words) && line.units() == 6);
+    // torn bytes behind it wait where its own were
+    let mut line = live(5_000);
+    assert_eq!(line.hear_frame(&bytes[..70], u64::MAX, 5_100).map(|heard| heard.waiting), Ok(18));
+    let behind = [&bytes[70..], &HEARTBEAT[..15]].concat();
+    assert_eq!(line.hear_frame(&behind, u64::MAX, 5_100).map(|heard| (heard.units, heard.waiting)), Ok((1, 15)));
+    assert_eq!(line.reason(5_100).to_string(), words);
     let mut line = connected(0);
     let turned_down = [unit(1, 0, &message(1105, 4)), unit(2, 0, &session(1102, 5))].concat();
     assert_eq!(line.hear_frame(&turned_down, 9, 0).expect("accepted").units, 2);

@@ -126,15 +126,21 @@ fn a_gap_loses_the_line_and_says_which() {
 }
 
 #[test]
-fn a_lost_line_never_says_wait() {
+fn a_lost_line_drops_what_comes_and_says_so() {
     let mut line = live(5_000);
     assert!(line.hear(&unit(9, 9, &bid(5, 2, 90)), 5_000).is_err());
-    for bytes in [&[][..], &[0][..], &unit(4, 2, &bid(5, 2, 90))] {
-        let refused = line.hear(bytes, 5_001).unwrap_err();
-        assert_eq!((refused.answer(), line.waiting()), (Answer::NotOpen, 0));
+    let next = unit(4, 2, &bid(5, 2, 90));
+    for bytes in [&[][..], &[0][..], &next, &next.repeat(3)] {
+        let heard = line.hear(bytes, 5_001).expect("no answer");
+        assert_eq!((heard.units, heard.waiting, heard.dropping), (0, 0, true));
+        assert_eq!((line.is_open(), line.is_dropping(), line.waiting()), (false, true, 0));
     }
-    let loss = line.reason(5_001).loss.expect("still the first refusal");
+    let reason = line.reason(5_001);
+    let loss = reason.loss.expect("still the first refusal");
     assert_eq!((loss.answer, loss.met), (Answer::NotNext, 9));
+    let dropping = reason.dropping.expect("since the same");
+    assert_eq!((dropping.answer, dropping.unit, dropping.time), (Answer::NotNext, 4, 5_000));
+    assert!(!reason.to_string().contains("dropped"), "told once: {}", reason);
 }
 
 #[test]
@@ -229,14 +235,64 @@ fn a_refused_connect_leaves_all() {
 }
 
 #[test]
-fn bytes_wait_for_the_clock() {
+fn a_clock_that_goes_back_drops_what_comes_under_a_green_badge() {
     let mut line = live(5_000);
     let next = unit(4, 2, &bid(5, 2, 90));
-    assert_eq!(line.hear(&next[..40], 4_999).unwrap_err().answer(), Answer::Early);
+    // torn bytes only wait, whatever the time
+    let heard = line.hear(&next[..40], 4_000).expect("waits");
+    assert_eq!((heard.units, heard.waiting, heard.dropping), (0, 40, false));
     assert_eq!(line.hear(&next[40..], 4_998).unwrap_err().answer(), Answer::Early);
-    assert_eq!((line.waiting(), line.badge(5_000)), (next.len(), Badge::Green));
-    assert_eq!(line.reason(4_998).to_string(), "the clock is before the last heard time by 2 ms");
-    assert_eq!(line.hear(&[], 5_001).expect("accepted").units, 1);
+    assert_eq!((line.waiting(), line.is_dropping(), line.is_open()), (0, true, false));
+    assert_eq!(line.reason(4_998).why, Why::Early);
+    for time in [5_000, 5_500, 6_000] {
+        assert!(line.hear(&next, time).expect("no answer").dropping);
+        assert_eq!((line.badge(time), line.why(time), line.feed().heard()), (Badge::Green, Why::Live, 5_000));
+        let words = "live; what comes is dropped since unit 4: the time is before the last heard time (answer 10)";
+        assert_eq!(line.reason(time).to_string(), words);
+    }
+    assert_eq!(line.badge(6_001), Badge::Stale);
+    let dropping = line.reason(6_001).dropping.expect("which refusal");
+    assert_eq!((dropping.answer, dropping.unit, dropping.time), (Answer::Early, 4, 4_998));
+    // a refused connect leaves that too
+    assert_eq!(line.connect(Connect::Fresh, 4_999).unwrap_err().answer(), Answer::Early);
+    assert!(line.is_dropping() && line.hear(&next, 6_001).expect("no answer").dropping);
+    let words = line.reason(6_001).to_string();
+    assert!(words.contains("limit is 1000 ms; what comes is dropped since unit 4: "), "{}", words);
+    assert!(
+        words.ends_with("; a connect was refused: the time is before the last heard time (answer 10)"),
+        "{}",
+        words
+    );
+    assert_eq!(line.reconnect(6_002), Ok(Connect::Resuming));
+    assert_eq!((line.is_dropping(), line.reason(6_002).dropping), (false, None));
+    line.hear(&session_bytes(0, &[(2, bid(5, 2, 90))]), 6_003).expect("accepted");
+    assert_eq!(line.books().bids(5).expect("a book").len(), 2);
+}
+
+#[test]
+fn what_follows_a_logout_is_refused_when_it_is_whole() {
+    let mut line = live(5_000);
+    let heard = line.hear(&[unit(4, 0, &session(1103, 103)), vec![20, 0, 0]].concat(), 5_000).expect("accepted");
+    assert_eq!((heard.units, heard.waiting, heard.dropping, line.is_open()), (1, 3, false, false));
+    assert_eq!(line.reason(5_000).to_string(), "closed: logged out (type 1103, status 103), unit 4");
+    assert_eq!(line.hear(&[0; 17], 5_001).unwrap_err().answer(), Answer::NotOpen);
+    let words =
+        "closed: logged out (type 1103, status 103), unit 4; what comes is dropped since unit 5: the feed is not open \
+                 for arrivals (answer 11)";
+    assert_eq!(line.reason(5_001).to_string(), words);
+    assert!(line.hear(&[0; 17], 5_002).expect("no answer").dropping);
+}
+
+#[test]
+fn a_line_that_was_never_connected_drops_from_the_first_whole_unit() {
+    let mut line = Line::new(1_000, 4).expect("listed");
+    let key = unit(1, 0, &message(1105, 532));
+    assert_eq!(line.hear(&[], 0).map(|heard| heard.waiting), Ok(0));
+    assert_eq!(line.hear(&key[..551], 0).map(|heard| heard.waiting), Ok(551));
+    assert_eq!(line.hear(&key[551..], 0).unwrap_err().answer(), Answer::NotOpen);
+    assert!(line.hear(&key, 0).expect("no answer").dropping);
+    line.connect(Connect::Fresh, 0).expect("accepted");
+    assert_eq!(line.hear(&key, 0).map(|heard| (heard.units, heard.dropping)), Ok((1, false)));
 }
 
 #[test]
@@ -269,6 +325,85 @@ fn what_closed_a_line_is_told() {
     assert_eq!(line.reason(0).to_string(), "closed: the logon was turned down (type 1102, status 5), unit 2");
 }
 
+/// Of a unit that has no room, as much is told as has come.
+#[test]
+fn a_unit_that_has_no_room_loses_the_line_as_soon_as_that_is_known() {
+    let mut line = Line::with_hold(1_000, 4, 552).expect("listed");
+    line.connect(Connect::Fresh, 0).expect("accepted");
+    line.hear(&session_bytes(0, &[(1, bid(5, 1, 100))]), 0).expect("a key of 552 bytes has room");
+    let long = unit(4, 2, &message(60, 533));
+    assert_eq!(line.hear(&long[..21], 0).map(|heard| heard.waiting), Ok(21));
+    assert_eq!(line.hear(&long[21..22], 0).unwrap_err().answer(), Answer::TooLong);
+    let words = "lost: the holding buffer is too short (answer 22), unit 4, SeqNum 4";
+    assert_eq!((line.reason(0).to_string(), line.badge(0)), (words.to_string(), Badge::Stale));
+    assert_eq!(line.reconnect(1), Ok(Connect::Resuming), "what has come is whole");
+    // whole in one piece it has none either
+    line.hear(&session_bytes(0, &[]), 2).expect("accepted");
+    assert_eq!(line.hear(&unit(3, 2, &message(60, 533)), 2).unwrap_err().answer(), Answer::TooLong);
+    let words = "lost: the holding buffer is too short (answer 22), unit 3, type 60, SeqNum 3";
+    assert_eq!(line.reason(2).to_string(), words);
+}
+
+#[test]
+fn the_longest_unit_has_room_in_a_line() {
+    let mut line = live(5_000);
+    let longest = unit(4, 2, &message(60, 65_535));
+    assert_eq!(longest.len(), mmdh::single::LONGEST);
+    for piece in longest.chunks(1_000) {
+        line.hear(piece, 5_000).expect("accepted");
+    }
+    assert_eq!((line.units(), line.waiting()), (4, 0));
+}
+
+#[test]
+fn a_buffer_without_room_for_a_header_and_a_size_is_never_connected() {
+    for bytes in [0, 1, 21] {
+        let mut line = Line::with_hold(1_000, 4, bytes).expect("listed");
+        assert_eq!(line.connect(Connect::Resuming, 0).unwrap_err().answer(), Answer::CannotResume);
+        assert_eq!(line.reconnect(0).unwrap_err().answer(), Answer::TooLong);
+        let words = "never connected; a connect was refused: the holding buffer is too short (answer 22)";
+        assert_eq!((line.reason(0).to_string(), line.is_open()), (words.to_string(), false));
+        assert_eq!(line.hear(&[], 0).unwrap_err().answer(), Answer::NotOpen);
+    }
+    let mut line = Line::with_hold(1_000, 4, 22).expect("listed");
+    line.connect(Connect::Fresh, 0).expect("accepted");
+    assert_eq!(line.hear(&[20, 0, 0, 0].repeat(50), 0).map(|heard| heard.units), Ok(10), "heartbeats have room");
+}
+
+/// Torn in two at every byte, each unit is shown with all of its bytes.
+#[test]
+fn each_unit_is_shown_whole_wherever_it_was_torn() {
+    let units = [unit(1, 0, &message(1105, 40)), unit(2, 0, &session(1102, 0)), [20, 0, 7, 0].repeat(5)];
+    let units = [&units[..], &[unit(3, 1, &bid(5, 1, 100)), unit(4, 1, &message(60, 300))]].concat();
+    let bytes = units.concat();
+    for at in 0..=bytes.len() {
+        let (mut line, mut shown) = (connected(0), Vec::new());
+        for piece in [&bytes[..at], &bytes[at..]] {
+            line.hear_each(piece, 0, |unit| shown.push(unit.bytes.to_vec())).expect("accepted");
+        }
+        assert_eq!(shown, units, "torn at {}", at);
+    }
+}
+
+/// What another box cuts goes by the feed alone.
+#[test]
+fn a_message_already_cut_is_taken_by_a_line_that_drops() {
+    let mut line = live(5_000);
+    assert_eq!(line.hear(&unit(4, 2, &bid(5, 2, 90)), 4_999).unwrap_err().answer(), Answer::Early);
+    assert_eq!(line.hear_cut(4, 2, &bid(5, 2, 90), 5_001), Ok(Answer::Taken));
+    assert_eq!((line.is_dropping(), line.feed().heard(), line.units()), (true, 5_001, 4));
+    // and its refusal drops no bytes: they are 11 when a unit is whole
+    let mut line = live(5_000);
+    assert_eq!(line.hear_cut(9, 2, &bid(5, 2, 90), 5_001).unwrap_err().answer(), Answer::NotNext);
+    assert_eq!(line.hear(&[20, 0], 5_001).map(|heard| (heard.waiting, heard.dropping)), Ok((2, false)));
+    assert_eq!(line.hear(&[0; 18], 5_001).unwrap_err().answer(), Answer::NotOpen);
+    let words = line.reason(5_001).to_string();
+    assert!(
+        words.starts_with("lost: ")
+            && words.ends_with("dropped since unit 4: the feed is not open for arrivals (answer 11)")
+    );
+}
+
 #[test]
 fn a_message_too_short_for_a_type_has_none() {
     let mut line = live(5_000);
@@ -280,7 +415,8 @@ fn a_message_too_short_for_a_type_has_none() {
 #[test]
 fn a_line_can_be_looked_at() {
     let shown = format!("{:?}", live(5_000));
-    for part in ["Line", "Feed", "codes: [5]", "units: 3"] {
+    for part in ["Line", "Feed", "codes: [5]", "units: 3", "65555 bytes"] {
         assert!(shown.contains(part), "{} is not in {}", part, shown);
     }
+    assert!(shown.len() < 1_000, "{} signs", shown.len());
 }
