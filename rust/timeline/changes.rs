@@ -109,19 +109,17 @@ impl Follower {
         }
     }
 
-    /// The arrival that was refused; of those behind it, which are all 11, nothing is noted.
+    /// The unit that was refused; what comes behind it is dropped and gets no answer.
     fn refused(&mut self, refused: Refused) {
-        if refused.answer() == Answer::NotOpen {
-            return;
-        }
         let of = |loss: Loss| Cause { unit: loss.unit, seq: loss.met, kind: loss.kind };
         let cause = self.line.reason(self.time).loss.map(of);
         self.note("refused unit", cause, Some(refused.answer()));
     }
 
-    /// A unit that closed the line is told with its status.
+    /// A unit that closed the line is told with its status; what was refused behind it comes after it.
     fn tell_closing(&mut self) {
-        let reason = self.line.reason(self.time);
+        let mut reason = self.line.reason(self.time);
+        reason.dropping = None;
         let closed_by = reason.closing.map(|closing| closing.unit);
         if let Some(change) = self.changes.last_mut() {
             if closed_by.is_some() && change.cause.map(|cause| cause.unit) == closed_by && change.event == "unit" {
