@@ -42,9 +42,9 @@ impl Desk {
         }
     }
 
-    /// Whether anything can still change but the time: not after Lost or Closed.
+    /// Whether nothing can change any more but the time: after Lost and Closed. A line that only drops may still be green.
     pub fn is_over(&self) -> bool {
-        !self.line.is_open()
+        !self.line.feed().is_open()
     }
 
     /// A frame no wider and no higher than the size: badge and reason first, then the rest as far as there is room.
@@ -87,7 +87,9 @@ impl Desk {
     fn head(&self, size: Size, time: u64) -> Vec<Text> {
         let reason = self.line.reason(time);
         let label = panel::label(reason.badge(), size.columns);
-        let said = [reason.to_string(), reason.why.to_string(), String::new()];
+        let dropping = if reason.dropping.is_some() && reason.loss.is_none() { ", dropping" } else { "" };
+        let short = format!("{}{}", reason.why, dropping);
+        let said = [reason.to_string(), short, reason.why.to_string(), String::new()];
         let wrapped = said.iter().map(|words| wrap(label.chars().count(), words, size.columns));
         let fitting = wrapped.into_iter().find(|lines| lines.len() <= size.lines.max(1)).unwrap_or_default();
         let mut lines = fitting.into_iter().map(|line| Text::of(line, Style::Strong));

@@ -84,6 +84,22 @@ fn the_reason_stands_first_and_is_never_cut() {
     assert_eq!(frame(&desk, "", 12, 2, time)[0], " stale  lost");
 }
 
+/// Beside the reason stands that bytes are dropped, and since which refusal, where that is not the reason itself.
+#[test]
+fn a_line_that_drops_says_so() {
+    let units = [unit(3, 0, &session(1103, 6)), unit(4, 0, &message(60, 4))].concat();
+    let bytes = [unit(1, 0, &message(1105, 4)), unit(2, 0, &session(1102, 0)), units].concat();
+    for (length, dropping) in [(bytes.len(), true), (bytes.len() - 1, false)] {
+        let mut desk = Desk::new(3_000, Capture::new(bytes[..length].to_vec())).expect("listed");
+        desk.hear(1);
+        let painted = frame(&desk, "", 80, 24, 1).join(" ");
+        assert_eq!(painted.contains("what comes is dropped since unit 4:"), dropping, "{}", painted);
+        assert!(painted.contains("closed: logged out") && desk.is_over(), "{}", painted);
+        let short = frame(&desk, "", 25, 1, 1).join(" ");
+        assert!(short.starts_with(if dropping { " stale  closed, dropping" } else { " stale  closed" }), "{}", short);
+    }
+}
+
 #[test]
 fn panels_that_do_not_fit_are_announced() {
     let (desk, time) = morning(12_000);
