@@ -2,8 +2,8 @@
  * mmdh: order books from the exchange's MMDH feed, a price strip under each, and a badge that is green only with the right
  * to be.
  *
- * The answers are the numbers of document 01; MMDH_* below names them. Every call is total: any feed, any tables, any
- * bytes and any time is answered, and nothing is kept between calls. Link with libscreen.a, and compare mmdh_version()
+ * The answers are the numbers of document 01, and 22 of document 02; MMDH_* below names them. Every call is total: any
+ * feed, any tables, any bytes and any time is answered, and nothing is kept between calls. Link with libscreen.a, and compare mmdh_version()
  * with MMDH_VERSION once at the start: the linker does not notice an archive whose calls have other shapes.
  *
  * Two tables are lent: the books, 64 words each, and the strips, 12 words each, at most 4,096 of either; words behind the
@@ -13,8 +13,11 @@
  * Messages of types 40, 41, 43, 56 and 62 go to the strips; a logon that clears clears both tables. There is no call with
  * the books alone: who wants only books lends strips all the same, as many slots as codes can come, or a code that finds
  * no slot ends the feed with 17.
- * Slices are a pointer and a length in elements; with length 0 the pointer may be null. The tables must not overlap each
- * other or the bytes.
+ * Bytes come in one of two ways. Who has whole units hands them in by mmdh_arrive, or many by mmdh_arrive_frame, and keeps what
+ * was not used. Who has scraps lends a holding buffer and makes a line of the feed: mmdh_line_connect and mmdh_line_scrap.
+ * A line's feed goes through these two only.
+ * Slices are a pointer and a length in elements; with length 0 the pointer may be null. The tables and the holding buffer
+ * must not overlap each other or the bytes.
  */
 #ifndef MMDH_H
 #define MMDH_H
@@ -38,7 +41,7 @@ enum {
     MMDH_TAKEN = 0,          /* also a connect or a new feed that is accepted, and a row, a side or a strip that is read */
     MMDH_SEEN = 1,           /* internal number not above the last: SeqNum advances and the time is heard, nothing else */
     MMDH_PASSED = 2,         /* a market message that goes to neither table */
-    MMDH_MORE = 3,           /* bytes are missing: call again with more */
+    MMDH_MORE = 3,           /* bytes are missing: call again with more; never said of a scrap */
     MMDH_NO_ROW = 4,         /* reading only: no book, or no such row; no strip */
     MMDH_EARLY = 10,         /* the time is before the last heard time */
     MMDH_NOT_OPEN = 11,      /* arrival in Idle, Lost or Closed */
@@ -50,7 +53,8 @@ enum {
     MMDH_FULL = 17,          /* no slot is free: Lost and not whole */
     MMDH_UNSOUND = 18,       /* the book or the strip is not sound: Lost and not whole */
     MMDH_BAD_LIMIT = 19,     /* new feed, limit outside 1 to 600,000: a feed with limit 1,000 is handed back */
-    MMDH_CANNOT_RESUME = 20  /* resuming connect without its need */
+    MMDH_CANNOT_RESUME = 20, /* resuming connect without its need */
+    MMDH_TOO_LONG = 22       /* lines only: a unit, or what waits, is longer than the holding buffer: Lost; or a connect with a short one */
 };
 
 /* Phases. A number above 6 is handled as Lost. */
@@ -110,6 +114,31 @@ typedef struct {
     uint64_t used;
     MmdhFeed feed;
 } MmdhFrame;
+
+/* A line: a feed whose bytes come in scraps. The first held bytes of the holding buffer wait for the rest of their unit. dropping: 0
+   is no, anything else yes: since a refusal, what comes is dropped. A new line is { mmdh_new(limit).feed, 0, 0 }. */
+typedef struct {
+    MmdhFeed feed;
+    uint64_t held;
+    uint64_t dropping;
+} MmdhLine;
+
+/* What a connect of a line hands back. */
+typedef struct {
+    uint64_t answer;
+    MmdhLine line;
+} MmdhLinked;
+
+/* What a scrap hands back. said is 1 where answer is the last unit's: 0, 1 or 2 where the allowed number was reached, else the
+   refusal. said is 0, and so is answer, where what is left of the scrap waits or is dropped. accepted counts the units accepted
+   with 0, 1 or 2, used the bytes of the scrap: all of them, unless the allowed number was reached first. */
+typedef struct {
+    uint64_t said;
+    uint64_t answer;
+    uint64_t accepted;
+    uint64_t used;
+    MmdhLine line;
+} MmdhHeard;
 
 /* A row: price in thousandths, as sent. With an answer other than 0 the rest is 0. */
 typedef struct {
@@ -173,6 +202,33 @@ MmdhFrame mmdh_arrive_frame(MmdhFeed feed, uint64_t *books, size_t books_len, ui
 /* The two numbers of a header, and its message already cut. No bytes are used. */
 MmdhGiven mmdh_arrive_cut(MmdhFeed feed, uint64_t *books, size_t books_len, uint64_t *strips, size_t strips_len,
                           uint32_t seq, uint32_t internal, const uint8_t *message, size_t message_len, uint64_t time);
+
+/* A connect of a line, with the holding buffer that its scraps will wait in: 10, 20, or 22 where the buffer has fewer than 22 bytes,
+   a header and MsgSize; refused, the line comes back as it was handed in. Accepted, nothing waits and nothing is dropped; the
+   buffer's bytes are not touched. */
+MmdhLinked mmdh_line_connect(MmdhLine line, const uint8_t *hold, size_t hold_len, uint64_t resuming, uint64_t time);
+
+/* A scrap, of any bytes or none. Units that are finished with it go through the feed one by one, as by mmdh_arrive at that time, at
+   most as many as are allowed; what is left waits in the holding buffer. No scrap is answered 3. Lend the same buffer at every call
+   and write nothing to it in between: then any cutting gives the answers, tables and feed of one piece, up to the first refusal.
+
+   22 is due where 20 + MsgSize is more than the buffer has, as soon as MsgSize is known and also where the unit lies whole in the
+   scrap; where the buffer has fewer than 22 bytes; and where held is more than it has. It comes after 10 and 11; the feed goes
+   Lost, and whole stays. 10 and 11 come only when a unit is finished or 22 is due: till then a scrap only waits.
+
+   After any refusal, 10 and 11 too, nothing waits, the rest of the scrap is dropped, and so is all that follows, without an answer,
+   until a connect of the line is accepted. After 10 the feed may still be Live, and the badge green until the limit has passed:
+   show dropping beside it.
+
+   1 allowed shows every answer: come again with the rest while said is 1 and the answer 0, 1 or 2 (an empty rest does no harm). Any
+   number may be allowed; with 0 nothing is looked at and nothing is used. With 0 allowed, and while dropping, the line comes back
+   as it was handed in.
+
+   Of the buffer only this is written: where nothing is due, what is left of the scrap, behind the held bytes; where a unit is
+   finished that some but not all of its bytes waited for, the missing ones behind these, so that it lies at the front; and where
+   held bytes made by hand have a whole unit in front and it is accepted, the held bytes behind it move to the front. */
+MmdhHeard mmdh_line_scrap(MmdhLine line, uint64_t *books, size_t books_len, uint64_t *strips, size_t strips_len,
+                          uint8_t *hold, size_t hold_len, const uint8_t *scrap, size_t scrap_len, uint64_t allowed, uint64_t time);
 
 /* A row by code, side (0 bid, 1 offer) and rank (1 to 10). */
 MmdhRow mmdh_read_row(const uint64_t *books, size_t books_len, uint64_t code, uint64_t side, uint64_t rank);

@@ -1,5 +1,5 @@
-/* include/mmdh.h as a C program meets it: its version, example 10's three units through the archive, one by one and as a frame,
-   the row and the sides they leave, an emptied book, a strip of every type, the badge and every reason. */
+/* include/mmdh.h as a C program meets it: its version, example 10's three units through the archive, one by one, as a frame and in
+   scraps, the row and the sides they leave, an emptied book, a strip of every type, the badge and every reason. */
 #include <stddef.h>
 #include <stdio.h>
 #include <string.h>
@@ -54,6 +54,13 @@ static void nothing_lent(void) {
     expect("nothing lent and nothing allowed", none.answer == MMDH_TAKEN && none.accepted == 0 && none.used == 0 && memcmp(&none.feed, &open, sizeof open) == 0);
     MmdhGiven cut = mmdh_arrive_cut(open, NULL, 0, NULL, 0, 1, 0, NULL, 0, 6);
     expect("a message of no bytes: wrong size", cut.answer == MMDH_WRONG_SIZE && cut.feed.phase == MMDH_LOST);
+    MmdhLine line = {open, 0, 0};
+    MmdhLinked linked = mmdh_line_connect(line, NULL, 0, 0, 6);
+    expect("a connect with no buffer", linked.answer == MMDH_TOO_LONG && memcmp(&linked.line, &line, sizeof line) == 0);
+    MmdhHeard heard = mmdh_line_scrap(line, NULL, 0, NULL, 0, NULL, 0, NULL, 0, 1, 6);
+    expect("no scrap, no tables and no buffer: too long", heard.said == 1 && heard.answer == MMDH_TOO_LONG && heard.line.feed.phase == MMDH_LOST && heard.line.dropping == 1);
+    heard = mmdh_line_scrap(heard.line, NULL, 0, NULL, 0, NULL, 0, NULL, 0, 1, 6);
+    expect("and then it drops", heard.said == 0 && heard.answer == 0 && heard.used == 0 && heard.line.dropping == 1);
     expect("a row of no table", mmdh_read_row(NULL, 0, 700, 0, 1).answer == MMDH_NO_ROW);
     expect("a strip of no table", mmdh_read_strip(NULL, 0, 700).answer == MMDH_NO_ROW);
 
@@ -215,6 +222,102 @@ static void frames(MmdhFeed open, const uint8_t *bytes, size_t n, const uint64_t
     expect("it loses the feed, and what stands before it stays", frame.feed.phase == MMDH_LOST && frame.feed.next == 4 && memcmp(own, books, sizeof own) == 0);
 }
 
+/* A line of these numbers is the other. */
+static int same_line(const MmdhLine *line, const MmdhLine *other) {
+    return memcmp(line, other, sizeof *line) == 0;
+}
+
+/* The same three units in scraps of every length, up to and over the whole, as single calls left the tables and the feed. */
+static void cut(const uint8_t *bytes, size_t n, const uint64_t *books, const uint64_t *strip_table, MmdhFeed after) {
+    static uint64_t own[2 * MMDH_BOOK_WORDS + 1], own_strips[MMDH_STRIP_WORDS + 1];
+    static uint8_t hold[64];
+    own[128] = own_strips[12] = 77;
+    int good = 1;
+    for (size_t length = 1; length <= n; length++) {
+        MmdhLine line = {mmdh_new(1000).feed, 7, 1};
+        line = mmdh_line_connect(line, hold, sizeof hold, 0, 5).line;
+        uint64_t accepted = 0;
+        for (size_t at = 0; at < n; at += length) {
+            size_t scrap = n - at < length ? n - at : length;
+            MmdhHeard heard = mmdh_line_scrap(line, own, 129, own_strips, 13, hold, sizeof hold, bytes + at, scrap, UINT64_MAX, 6);
+            good = good && heard.said == 0 && heard.answer == 0 && heard.used == scrap;
+            accepted += heard.accepted;
+            line = heard.line;
+        }
+        MmdhLine wanted = {after, 0, 0};
+        good = good && accepted == 3 && same_line(&line, &wanted);
+        good = good && memcmp(own, books, sizeof own) == 0 && memcmp(own_strips, strip_table, sizeof own_strips) == 0;
+    }
+    expect("in scraps of any length all ends as by single calls", good);
+}
+
+/* A line from its first connect to its second: what waits, where, what is refused and what is dropped. */
+static void scraps(const uint8_t *bytes, size_t n, const uint64_t *books) {
+    static uint64_t own[2 * MMDH_BOOK_WORDS + 1], own_strips[MMDH_STRIP_WORDS + 1];
+    uint8_t hold[64], as_it_was[64];
+    memset(hold, 0xEE, sizeof hold);
+    memset(as_it_was, 0xEE, sizeof hold);
+    own[128] = own_strips[12] = 77;
+    expect("the layout of a line", sizeof(MmdhLine) == 72 && offsetof(MmdhLine, held) == 56 && offsetof(MmdhLine, dropping) == 64);
+    expect("the layout of what a connect of it hands back", sizeof(MmdhLinked) == 80 && offsetof(MmdhLinked, line) == 8);
+    expect("the layout of what a scrap hands back", sizeof(MmdhHeard) == 104 && offsetof(MmdhHeard, answer) == 8 && offsetof(MmdhHeard, accepted) == 16 &&
+                                                       offsetof(MmdhHeard, used) == 24 && offsetof(MmdhHeard, line) == 32);
+
+    MmdhLine line = {mmdh_new(1000).feed, 0, 0}, before = line;
+    expect("resuming before the buffer", mmdh_line_connect(line, hold, 21, 1, 5).answer == MMDH_CANNOT_RESUME);
+    MmdhLinked linked = mmdh_line_connect(line, hold, 21, 0, 5);
+    expect("a buffer of 21 bytes", linked.answer == MMDH_TOO_LONG && same_line(&linked.line, &before));
+    linked = mmdh_line_connect(line, hold, 22, 0, 5);
+    expect("one of 22", linked.answer == MMDH_TAKEN && linked.line.feed.phase == MMDH_WAIT_KEY && linked.line.feed.heard == 5);
+    line = linked.line;
+    expect("an early connect", mmdh_line_connect(line, hold, 0, 1, 4).answer == MMDH_EARLY);
+
+    /* the key in two: its front waits, then it lies whole at the buffer's front, and the next unit's front is left for another call */
+    MmdhHeard heard = mmdh_line_scrap(line, own, 129, own_strips, 13, hold, sizeof hold, bytes, 10, 1, 4);
+    expect("torn bytes only wait, at any time", heard.said == 0 && heard.answer == 0 && heard.accepted == 0 && heard.used == 10 && heard.line.held == 10 && heard.line.feed.heard == 5);
+    memcpy(as_it_was, bytes, 10);
+    expect("at the front of the buffer", memcmp(hold, as_it_was, sizeof hold) == 0);
+    before = heard.line;
+    heard = mmdh_line_scrap(before, own, 129, own_strips, 13, hold, sizeof hold, bytes + 10, n - 10, 0, 4);
+    expect("nothing allowed, nothing used", heard.said == 0 && heard.used == 0 && same_line(&heard.line, &before) && memcmp(hold, as_it_was, sizeof hold) == 0);
+    heard = mmdh_line_scrap(before, own, 129, own_strips, 13, hold, sizeof hold, bytes + 10, n - 10, 1, 6);
+    expect("one allowed: the key", heard.said == 1 && heard.answer == MMDH_TAKEN && heard.accepted == 1 && heard.used == 14 && heard.line.held == 0 && heard.line.feed.phase == MMDH_WAIT_LOGON);
+    memcpy(as_it_was, bytes, 24);
+    expect("it lies at the front", memcmp(hold, as_it_was, sizeof hold) == 0);
+    heard = mmdh_line_scrap(heard.line, own, 129, own_strips, 13, hold, sizeof hold, bytes + 24, n - 24, 9, 6);
+    expect("the rest of them", heard.said == 0 && heard.accepted == 2 && heard.used == n - 24 && heard.line.feed.phase == MMDH_LIVE && memcmp(own, books, sizeof own) == 0);
+    expect("units that lie in the scrap are not copied", memcmp(hold, as_it_was, sizeof hold) == 0);
+
+    /* 10 under a green badge, then nothing more has an answer */
+    static const uint8_t heartbeat[20] = {20};
+    MmdhFeed live = heard.line.feed;
+    heard = mmdh_line_scrap(heard.line, own, 129, own_strips, 13, hold, sizeof hold, heartbeat, 20, 1, 5);
+    expect("a unit before the last heard time", heard.said == 1 && heard.answer == MMDH_EARLY && heard.used == 20 && heard.line.dropping == 1 && heard.line.held == 0);
+    expect("the feed as it was, and green", memcmp(&heard.line.feed, &live, sizeof live) == 0 && mmdh_badge(live.phase, live.heard, live.limit, 6) == MMDH_GREEN);
+    before = heard.line;
+    before.dropping = 7;
+    heard = mmdh_line_scrap(before, own, 129, own_strips, 13, hold, sizeof hold, heartbeat, 20, 1, 6);
+    expect("what follows is dropped", heard.said == 0 && heard.answer == 0 && heard.accepted == 0 && heard.used == 20 && same_line(&heard.line, &before));
+    linked = mmdh_line_connect(before, hold, sizeof hold, 0, 5);
+    expect("a refused connect does not end it", linked.answer == MMDH_EARLY && same_line(&linked.line, &before));
+    linked = mmdh_line_connect(before, hold, sizeof hold, 1, 7);
+    expect("one that is accepted does", linked.answer == MMDH_TAKEN && linked.line.dropping == 0 && linked.line.held == 0 && memcmp(hold, as_it_was, sizeof hold) == 0);
+
+    /* a unit that has no room, known at its 22nd byte */
+    static const uint8_t too_long[22] = {65, 0, 0, 0, 1, 0, 0, 0, 0, 0, 0, 0, 0, 0, 0, 0, 0, 0, 0, 0, 45, 0};
+    heard = mmdh_line_scrap(linked.line, own, 129, own_strips, 13, hold, sizeof hold, too_long, 21, 1, 7);
+    expect("its first 21 bytes wait", heard.said == 0 && heard.line.held == 21);
+    memcpy(as_it_was, too_long, 21);
+    heard = mmdh_line_scrap(heard.line, own, 129, own_strips, 13, hold, sizeof hold, too_long + 21, 1, 1, 7);
+    expect("too long: Lost, and whole as it was", heard.said == 1 && heard.answer == MMDH_TOO_LONG && heard.line.feed.phase == MMDH_LOST && heard.line.feed.whole == 1);
+    expect("nothing waits, nothing is written", heard.line.held == 0 && heard.line.dropping == 1 && memcmp(hold, as_it_was, sizeof hold) == 0);
+    line = linked.line;
+    line.held = 65;
+    heard = mmdh_line_scrap(line, own, 129, own_strips, 13, hold, sizeof hold, heartbeat, 0, 1, 7);
+    expect("more waits than the buffer has", heard.said == 1 && heard.answer == MMDH_TOO_LONG);
+    expect("the tables of before", memcmp(own, books, sizeof own) == 0);
+}
+
 int main(int argc, char **argv) {
     static uint64_t table[2 * MMDH_BOOK_WORDS + 1], strip_table[MMDH_STRIP_WORDS + 1];
     static uint8_t bytes[4096];
@@ -264,6 +367,8 @@ int main(int argc, char **argv) {
 
     expect("the bids at once", as_single(table, 129, 700, 0) && mmdh_read_side(table, 129, 700, 0).count == 1);
     frames(open, bytes, n, table, strip_table, f);
+    cut(bytes, n, table, strip_table, f);
+    scraps(bytes, n, table);
     sides();
     emptied();
     strips();
