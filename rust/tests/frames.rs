@@ -23,12 +23,12 @@ pub fn check(pair: &mut Pair) {
     closed(pair);
 }
 
-fn bid(code: u32, level: u8, price: i32) -> Vec<u8> {
+pub fn bid(code: u32, level: u8, price: i32) -> Vec<u8> {
     book_message(code, &[Entry { quantity: 400, price, orders: 1, level, ..Entry::default() }])
 }
 
 /// Units that a feed in Live accepts one behind the other, each with its answer.
-fn units() -> Vec<(u64, Vec<u8>)> {
+pub fn units() -> Vec<(u64, Vec<u8>)> {
     vec![
         (0, unit(7, 41, &bid(700, 1, 9_730))),
         (0, unit(8, 42, &nominal(700, 9_740))),
@@ -41,7 +41,7 @@ fn units() -> Vec<(u64, Vec<u8>)> {
 }
 
 /// Two books and two strips that are free, one of each that is not sound, and words behind the slots.
-fn tables() -> Tables {
+pub fn tables() -> Tables {
     let mut tables = Tables::zeros(3 * SLOT + 5, 3 * STRIP + 5);
     tables.books[0..4].copy_from_slice(&[6, 0, 0, 1]);
     tables.strips[0..2].copy_from_slice(&[6, 512]);
@@ -51,7 +51,7 @@ fn tables() -> Tables {
 }
 
 /// The bytes of units, and where each ends.
-fn joined(units: &[(u64, Vec<u8>)]) -> (Vec<u8>, Vec<u64>) {
+pub fn joined(units: &[(u64, Vec<u8>)]) -> (Vec<u8>, Vec<u64>) {
     let mut bytes = Vec::new();
     let mut ends = vec![0];
     for (_, unit) in units {
@@ -110,7 +110,7 @@ fn phases(pair: &mut Pair) {
 }
 
 /// A unit for each refusal, with these two numbers in its header.
-fn refused(seq: u32, internal: u32) -> [(u64, Vec<u8>); 8] {
+pub fn refused(seq: u32, internal: u32) -> [(u64, Vec<u8>); 8] {
     [
         (12, unit(seq, internal, &message(53, 40))),
         (13, unit(seq + 1, internal, &bid(5, 1, 9))),
@@ -243,7 +243,8 @@ pub fn tuned(pair: &mut Pair, dice: &mut Dice, tables: &Tables) {
     pair.tuned_frame(feed, tables, &bytes, allowed, time);
 }
 
-fn any(dice: &mut Dice, tables: &Tables) -> (MmdhFeed, Vec<u8>, u64, u64) {
+/// Any feed, units for it, how many are allowed, and a time.
+pub fn any(dice: &mut Dice, tables: &Tables) -> (MmdhFeed, Vec<u8>, u64, u64) {
     let feed = scene::feed(dice);
     let time = scene::time(dice, feed.heard);
     let sent = dice.of(&[0, 1, 2, 3, 3, 4, 6]);

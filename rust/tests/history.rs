@@ -25,14 +25,14 @@ impl History {
 
     /// Notes an arrival and its answer.
     pub fn arrive(&mut self, call: Call, answer: u64, used: u64, message: &[u8], time: u64) {
-        if (12..=18).contains(&answer) {
+        if matches!(answer, 12..=18 | 22) {
             self.complete = false;
         }
         if answer > 2 {
             return;
         }
         self.heard = time;
-        let heartbeat = call == Call::Arrive && used == 20;
+        let heartbeat = call != Call::ArriveCut && used == 20;
         if answer == 0 && !heartbeat {
             self.message(message);
         }

@@ -1,5 +1,5 @@
-//! The library against the twin, call by call; the vectors, document 01's examples, quantities, emptied books, price strips
-//! and frames.
+//! The library against the twin, call by call; the vectors, document 01's examples, quantities, emptied books, price strips,
+//! frames and scraps.
 //! The last line is 'N passed, M failed'.
 
 #![forbid(unsafe_code)]
@@ -10,11 +10,13 @@ mod examples;
 mod frames;
 mod grids;
 mod history;
+mod lines;
 mod pair;
 mod program;
 mod quantities;
 mod runs;
 mod scene;
+mod scraps;
 mod sides;
 mod singles;
 mod strips;
@@ -74,12 +76,14 @@ fn main() {
     emptied::check(&mut pair, &mut dice, options.rounds / 100);
     strips::check(&mut pair, &mut dice, options.rounds / 100);
     frames::check(&mut pair);
+    scraps::check(&mut pair);
     grids::check(&mut pair, &mut dice);
     badges::check(&mut pair, &mut dice, options.rounds / 4);
     sides::check(&mut pair.tally, &mut dice, options.rounds / 1_000);
     singles::check_large(&mut pair, &mut dice, options.rounds / 3_000);
     singles::check_tuned(&mut pair, &mut dice, options.rounds / 4);
     runs::check(&mut pair, &mut dice, options.rounds / 4_000, 500);
+    lines::check(&mut pair, &mut dice, options.rounds / 16, 300);
     runs::check_market(&mut pair, (options.rounds / 30) as u32);
     pair.tally.add(singles.join().expect("single calls"));
     if !pair.tally.finish() {

@@ -1,11 +1,13 @@
 //! One call made twice: through the C calls and to the twin, then compared in answer, feed, bytes used and every word. A frame
-//! is made a third time, by single C calls.
+//! is made a third time, by single C calls. Of a scrap every byte of the holding buffer is compared too.
 
 use crate::tables::{words, Tables};
 use crate::tally::{Call, Tally};
-use mmdh::raw::{self, MmdhFeed, MmdhFrame, MmdhGiven, MmdhLevel, MmdhRow, MmdhSide, MmdhStrip, ROWS};
+use mmdh::raw::{self, MmdhFeed, MmdhFrame, MmdhGiven, MmdhHeard, MmdhLevel, MmdhLine, MmdhLinked};
+use mmdh::raw::{MmdhRow, MmdhSide, MmdhStrip, ROWS};
 use std::fmt::Debug;
-use twin::{Feed, Frame, Given, Phase, Read, ReadSide, ReadStrip};
+use twin::line::{Heard, Line, Linked};
+use twin::{Answer, Feed, Frame, Given, Phase, Read, ReadSide, ReadStrip};
 
 /// The twin's feed of plain numbers.
 pub fn twin_feed(plain: MmdhFeed) -> Feed {
@@ -42,6 +44,35 @@ pub fn plain_given(given: Given) -> MmdhGiven {
 pub fn plain_frame(frame: Frame, allowed: u64, handed: MmdhFeed) -> MmdhFrame {
     let feed = if allowed == 0 { handed } else { plain_feed(frame.feed) };
     MmdhFrame { answer: frame.answer as u64, accepted: frame.accepted, used: frame.used, feed }
+}
+
+/// The twin's line of plain numbers.
+pub fn twin_line(plain: MmdhLine) -> Line {
+    Line { feed: twin_feed(plain.feed), held: plain.held, dropping: plain.dropping != 0 }
+}
+
+/// The plain numbers of the twin's line.
+pub fn plain_line(line: Line) -> MmdhLine {
+    MmdhLine { feed: plain_feed(line.feed), held: line.held, dropping: u64::from(line.dropping) }
+}
+
+/// The plain numbers of a connect of a line; where it is refused, the line is the one handed in, its odd numbers too.
+pub fn plain_linked(linked: Linked, handed: MmdhLine) -> MmdhLinked {
+    let line = if linked.answer == Answer::Taken { plain_line(linked.line) } else { handed };
+    MmdhLinked { answer: linked.answer as u64, line }
+}
+
+/// The plain numbers of a scrap; where no unit was allowed, and where the line drops, it is the one handed in, its odd numbers
+/// too.
+pub fn plain_heard(heard: Heard, allowed: u64, handed: MmdhLine) -> MmdhHeard {
+    let untouched = allowed == 0 || handed.dropping != 0;
+    MmdhHeard {
+        said: u64::from(heard.said.is_some()),
+        answer: heard.said.map_or(0, |answer| answer as u64),
+        accepted: heard.accepted,
+        used: heard.used,
+        line: if untouched { handed } else { plain_line(heard.line) },
+    }
 }
 
 /// A frame by single C calls at the same time, and what each of them handed back.
@@ -100,12 +131,14 @@ fn by_singles(answer: u64, singles: &[MmdhRow; ROWS]) -> MmdhSide {
     MmdhSide { answer, count, row }
 }
 
-/// Both sides' copies of the tables, kept for use again.
+/// Both sides' copies of the tables and of the holding buffer, kept for use again.
 #[derive(Default)]
 pub struct Pair {
     pub tally: Tally,
     ours: Tables,
     twins: Tables,
+    our_hold: Vec<u8>,
+    twin_hold: Vec<u8>,
 }
 
 impl Pair {
@@ -161,6 +194,56 @@ impl Pair {
         let (singles, calls) = by_calls(feed, &mut self.twins, bytes, allowed, time);
         self.compare(&ours, &singles, || input("single calls"), tables);
         (ours, calls)
+    }
+
+    /// A connect of a line with a holding buffer, which is not written.
+    pub fn line_connect(&mut self, line: MmdhLine, hold: &[u8], resuming: u64, time: u64) -> MmdhLinked {
+        self.our_hold.clear();
+        self.our_hold.extend_from_slice(hold);
+        let ours = raw::line_connect(line, &self.our_hold, resuming, time);
+        let twins = plain_linked(twin::line::connect(twin_line(line), hold, resuming != 0, time), line);
+        self.tally.met(Call::LineConnect, ours.answer);
+        let input = || format!("connect {:?}, buffer of {}, resuming {} time {}", line, hold.len(), resuming, time);
+        let good = ours == twins && self.our_hold == hold;
+        self.tally.holds(good, || format!("{}\n  library {:?}\n  twin    {:?}", input(), ours, twins));
+        ours
+    }
+
+    /// A scrap on copies of the tables and of the holding buffer; the library's are in `after` and `hold_after`.
+    pub fn scrap(
+        &mut self,
+        line: MmdhLine,
+        (tables, hold): (&Tables, &[u8]),
+        scrap: &[u8],
+        allowed: u64,
+        time: u64,
+    ) -> MmdhHeard {
+        self.copy(tables);
+        for copy in [&mut self.our_hold, &mut self.twin_hold] {
+            copy.clear();
+            copy.extend_from_slice(hold);
+        }
+        let ours = raw::line_scrap(line, self.ours.lend(), &mut self.our_hold, scrap, allowed, time);
+        let (twins, twin_hold) = (self.twins.lend_twin(), &mut self.twin_hold);
+        let twins = twin::line::scrap(twin_line(line), twins, twin_hold, scrap, allowed, time);
+        if ours.said != 0 {
+            self.tally.met(Call::LineScrap, ours.answer);
+        }
+        let byte = self.our_hold.iter().zip(&self.twin_hold).position(|(ours, twins)| ours != twins);
+        let input = || {
+            format!(
+                "scrap {:?} allowed {} time {}\n  buffer {:02x?}\n  scrap {:02x?}\n  first byte that differs: {:?}",
+                line, allowed, time, hold, scrap, byte
+            )
+        };
+        let twins = plain_heard(twins, allowed, line);
+        self.compare(&(ours, byte), &(twins, None), input, tables);
+        ours
+    }
+
+    /// The library's holding buffer after the last scrap.
+    pub fn hold_after(&self) -> &[u8] {
+        &self.our_hold
     }
 
     /// The tuned twin's frame against the plain one's.

@@ -42,7 +42,7 @@ pub fn check(pair: &mut Pair, dice: &mut Dice, runs: u64, events: u64) {
         for _ in 0..events {
             run.event(pair, dice);
         }
-        run.replay(pair);
+        replay(pair, &run.history, &run.tables);
     }
 }
 
@@ -82,10 +82,7 @@ impl Run {
         let sent = dice.of(&[0, 1, 2, 3, 4, 6, 12]);
         let allowed = frames::allowed(dice, sent);
         let bytes = frames::stream(dice, self.feed, &self.tables, (sent, time), |dice, feed, tables| {
-            let sender = Sender { feed, tables };
-            let message = sender.message(dice);
-            let (seq, internal) = sender.numbers(dice);
-            unit(dice, seq, internal, &message)
+            Sender { feed, tables }.unit(dice)
         });
         let mut by_singles = self.tables.clone();
         let (singles, calls) = by_calls(self.feed, &mut by_singles, &bytes, allowed, time);
@@ -144,40 +141,46 @@ impl Run {
         let good = ours == twins && self.tables == self.twin_tables;
         pair.tally
             .holds(good, || format!("run: {:?} time {}\n  {:02x?}\n  {:?}\n  {:?}", before, time, bytes, ours, twins));
-        self.badges(pair, time);
+        badges(pair, &self.feed, &self.history, time);
     }
+}
 
-    /// The badge is green exactly when the history says so.
-    fn badges(&self, pair: &mut Pair, time: u64) {
-        let feed = &self.feed;
-        for asked in [time, time.saturating_add(time % 1_003), feed.heard.saturating_add(LIMIT + time % 2)] {
-            let green = pair.badge(feed.phase, feed.heard, feed.limit, asked) == 1;
-            pair.tally.same(&green, &self.history.green(asked), || format!("green of {:?} at {}", feed, asked));
-        }
+/// The badge of a feed is green exactly when the history says so.
+pub fn badges(pair: &mut Pair, feed: &MmdhFeed, history: &History, time: u64) {
+    for asked in [time, time.saturating_add(time % 1_003), feed.heard.saturating_add(LIMIT + time % 2)] {
+        let green = pair.badge(feed.phase, feed.heard, feed.limit, asked) == 1;
+        pair.tally.same(&green, &history.green(asked), || format!("green of {:?} at {}", feed, asked));
     }
+}
 
-    /// The tables are what the messages taken since the last clearing make of empty ones.
-    fn replay(&self, pair: &mut Pair) {
-        let mut replayed = Tables::zeros(self.tables.books.len(), self.tables.strips.len());
-        for message in &self.history.taken {
-            let size = usize::from(u16::from_le_bytes([message[0], message[1]]));
-            let fitted = match message[2] {
-                53 => twin::book::take(&mut replayed.books, &message[..size]),
-                _ => twin::strip::take(&mut replayed.strips, &message[..size]),
-            };
-            pair.tally.holds(fitted.is_ok(), || format!("a replayed message does not fit: {:02x?}", message));
-        }
-        pair.tally.holds(replayed == self.tables, || "the tables are not what replay gives".to_string());
+/// The tables are what the messages taken since the last clearing make of empty ones.
+pub fn replay(pair: &mut Pair, history: &History, tables: &Tables) {
+    let mut replayed = Tables::zeros(tables.books.len(), tables.strips.len());
+    for message in &history.taken {
+        let size = usize::from(u16::from_le_bytes([message[0], message[1]]));
+        let fitted = match message[2] {
+            53 => twin::book::take(&mut replayed.books, &message[..size]),
+            _ => twin::strip::take(&mut replayed.strips, &message[..size]),
+        };
+        pair.tally.holds(fitted.is_ok(), || format!("a replayed message does not fit: {:02x?}", message));
     }
+    pair.tally.holds(replayed == *tables, || "the tables are not what replay gives".to_string());
 }
 
 /// What the exchange sends next to a feed and its tables.
-struct Sender<'a> {
-    feed: &'a MmdhFeed,
-    tables: &'a Tables,
+pub struct Sender<'a> {
+    pub feed: &'a MmdhFeed,
+    pub tables: &'a Tables,
 }
 
 impl Sender<'_> {
+    /// A unit, mostly as the phase and the numbers want it.
+    pub fn unit(&self, dice: &mut Dice) -> Vec<u8> {
+        let message = self.message(dice);
+        let (seq, internal) = self.numbers(dice);
+        unit(dice, seq, internal, &message)
+    }
+
     /// Mostly what the phase wants.
     fn message(&self, dice: &mut Dice) -> Vec<u8> {
         match (self.feed.phase, dice.below(30)) {

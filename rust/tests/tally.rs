@@ -1,5 +1,5 @@
 //! Counts what was compared, by part, every answer that the library gave, and what was met by messages that empty a book,
-//! by those for a strip and by frames.
+//! by those for a strip, by frames and by scraps.
 
 use crate::scene::STRIPS;
 use mmdh::raw::MmdhGiven;
@@ -14,18 +14,22 @@ pub enum Call {
     Arrive,
     ArriveFrame,
     ArriveCut,
+    LineConnect,
+    LineScrap,
     ReadRow,
     ReadSide,
     ReadStrip,
     Why,
 }
 
-const WANTED: [(Call, &[u64]); 9] = [
+const WANTED: [(Call, &[u64]); 11] = [
     (Call::New, &[0, 19]),
     (Call::Connect, &[0, 10, 20]),
     (Call::Arrive, &[0, 1, 2, 3, 10, 11, 12, 13, 14, 15, 16, 17, 18]),
     (Call::ArriveFrame, &[0, 1, 2, 3, 10, 11, 12, 13, 14, 15, 16, 17, 18]),
     (Call::ArriveCut, &[0, 1, 2, 10, 11, 12, 13, 14, 15, 16, 17, 18]),
+    (Call::LineConnect, &[0, 10, 20, 22]),
+    (Call::LineScrap, &[0, 1, 2, 10, 11, 12, 13, 14, 15, 16, 17, 18, 22]),
     (Call::ReadRow, &[0, 4, 15, 18]),
     (Call::ReadSide, &[0, 4, 15, 18]),
     (Call::ReadStrip, &[0, 4, 15, 18]),
@@ -190,6 +194,84 @@ fn meetings() -> impl Iterator<Item = Meeting> {
     alone.into_iter().chain(none).chain(reached).chain(ends.clone().map(AtOnce)).chain(ends.map(Behind))
 }
 
+/// Where a unit was that a scrap finished.
+#[derive(Clone, Copy, PartialEq, Eq, PartialOrd, Ord, Debug)]
+pub enum Lay {
+    /// All of it in the scrap.
+    InScrap,
+    /// Some of it waited.
+    Torn,
+    /// All of it waited.
+    Waited,
+}
+
+/// What a scrap may meet.
+#[derive(Clone, Copy, PartialEq, Eq, PartialOrd, Ord, Debug)]
+pub enum Hearing {
+    /// No unit allowed, in this phase; every phase that is not known is 7.
+    NoneAllowed(u64),
+    /// No unit allowed, and the time is before the last heard one.
+    NoneAllowedEarly,
+    /// No unit allowed, and the line drops.
+    NoneAllowedDropping,
+    /// The line drops some bytes, or none.
+    Dropped,
+    DroppedNothing,
+    /// No unit is finished, in this phase, and so the bytes wait.
+    Waits(u64),
+    /// They do though the time is before the last heard one.
+    WaitsEarly,
+    /// Nothing came, where nothing waits and where bytes wait.
+    Nothing,
+    NothingBehind,
+    /// Behind accepted units bytes wait, or none are left.
+    WaitsBehind,
+    UsedUp,
+    /// The allowed number was reached, with this answer.
+    Reached(u64),
+    /// It was, and so was the end of the scrap.
+    ReachedAtTheEnd,
+    /// The first unit got this answer, which is a refusal.
+    AtOnce(u64),
+    /// A unit behind accepted ones got it.
+    Behind(u64),
+    /// A unit that lay so was accepted, or refused.
+    Accepted(Lay),
+    Refused(Lay),
+    /// 22 was due and given: of a unit that lies whole in the scrap, of one that is not finished, of a buffer too short for any,
+    /// of more waiting than there is room for.
+    LongWhole,
+    LongTorn,
+    ShortBuffer,
+    Overfull,
+    /// 22 was due, and it was 10 or 11.
+    DueBut(u64),
+    /// A unit as long as the buffer was put together in it and accepted.
+    Exact,
+    /// A heartbeat was.
+    TornHeartbeat,
+    /// A unit of this MsgSize, too small for a type, was refused.
+    Tiny(usize),
+    /// As many as a number can say were allowed, and some were accepted.
+    Unlimited,
+    /// From WaitKey to Live or to Refreshing.
+    Through(u64),
+}
+
+/// All that random scraps must have met by the end. 10 comes at once or never, as the clock stands still in a call.
+fn hearings() -> impl Iterator<Item = Hearing> {
+    use Hearing::*;
+    let alone = [NoneAllowedEarly, NoneAllowedDropping, Dropped, DroppedNothing, WaitsEarly, Nothing, NothingBehind];
+    let ends = [WaitsBehind, UsedUp, ReachedAtTheEnd, Exact, TornHeartbeat, Unlimited, Through(3), Through(4)];
+    let long = [LongWhole, LongTorn, ShortBuffer, Overfull, DueBut(10), DueBut(11), AtOnce(10)];
+    let lay = [Lay::InScrap, Lay::Torn, Lay::Waited].into_iter().flat_map(|lay| [Accepted(lay), Refused(lay)]);
+    let refusals = (11..=18).chain([22]);
+    let phases = (0..=7).flat_map(|phase| [NoneAllowed(phase), Waits(phase)]);
+    let numbers = (0..=2).map(Reached).chain((0..=3).map(Tiny)).chain(phases);
+    let answers = refusals.flat_map(|answer| [AtOnce(answer), Behind(answer)]);
+    alone.into_iter().chain(ends).chain(long).chain(lay).chain(numbers).chain(answers)
+}
+
 /// Differences printed in full before the rest are only counted.
 const SHOWN: u64 = 10;
 
@@ -202,6 +284,7 @@ pub struct Tally {
     emptying: BTreeMap<(u64, Meets), u64>,
     strips: BTreeMap<(u64, StripMeets), u64>,
     frames: BTreeMap<Meeting, u64>,
+    scraps: BTreeMap<Hearing, u64>,
 }
 
 impl Tally {
@@ -251,6 +334,11 @@ impl Tally {
         *self.frames.entry(met).or_insert(0) += 1;
     }
 
+    /// Notes what a random scrap met.
+    pub fn scrap(&mut self, met: Hearing) {
+        *self.scraps.entry(met).or_insert(0) += 1;
+    }
+
     /// One comparison; the input is described only where the two differ.
     pub fn same<T: PartialEq + Debug>(&mut self, got: &T, wanted: &T, input: impl FnOnce() -> String) -> bool {
         self.holds(got == wanted, || format!("{}\n  got    {:?}\n  wanted {:?}", input(), got, wanted))
@@ -289,6 +377,9 @@ impl Tally {
         for (met, times) in other.frames {
             *self.frames.entry(met).or_insert(0) += times;
         }
+        for (met, times) in other.scraps {
+            *self.scraps.entry(met).or_insert(0) += times;
+        }
     }
 
     /// Prints the counts; true where all passed.
@@ -319,6 +410,11 @@ impl Tally {
             let met = self.frames.contains_key(&meeting);
             self.holds(met, || format!("a frame never met {:?}", meeting));
         }
+        self.part("all that scraps may meet, met at random");
+        for hearing in hearings() {
+            let met = self.scraps.contains_key(&hearing);
+            self.holds(met, || format!("a scrap never met {:?}", hearing));
+        }
         for (name, count) in &self.parts {
             println!("{:>9}  {}", count, name);
         }
@@ -332,6 +428,7 @@ impl Tally {
             println!("strip messages in {} (what they met: times)  {}", name, self.strips_in(phase));
         }
         println!("frames (what they met: times)  {}", listed(self.frames.iter()));
+        println!("scraps (what they met: times)  {}", listed(self.scraps.iter()));
         println!("{} passed, {} failed", self.passed, self.failed);
         self.failed == 0
     }

@@ -1,0 +1,568 @@
+//! Scraps (request 5 of document 02): the library against the twin, over every word of both tables and every byte of the holding
+//! buffer. What must come of them is said here too, for streams made by hand.
+
+use crate::frames::{self, bid, joined, HEARTBEAT};
+use crate::pair::{by_calls, Pair};
+use crate::scene::SLOT;
+use crate::tables::Tables;
+use crate::told::{LIVE, TIME};
+use exchange::{imbalance, message, nominal, refresh_complete, session, unit};
+use mmdh::raw::{self, MmdhFeed, MmdhHeard, MmdhLine, MmdhLinked};
+
+/// What a holding buffer is filled with, where nothing has been written.
+const CLEAN: u8 = 0xEE;
+
+const PHASES: [u64; 10] = [0, 1, 2, 3, 4, 5, 6, 7, 9, u64::MAX];
+
+/// Bytes of a header with MsgSize.
+pub const SIZED: usize = 22;
+
+/// Where a line stands: its numbers, the words of its tables and the bytes of its holding buffer.
+#[derive(Clone, PartialEq, Eq, Debug)]
+pub struct Stand {
+    pub line: MmdhLine,
+    pub tables: Tables,
+    pub hold: Vec<u8>,
+}
+
+impl Stand {
+    /// A line with so much room, in which nothing waits.
+    pub fn new(feed: MmdhFeed, tables: Tables, room: usize) -> Stand {
+        Stand { line: MmdhLine { feed, held: 0, dropping: 0 }, tables, hold: vec![CLEAN; room] }
+    }
+
+    /// A connect, compared with the twin's; the line goes on with what the library hands back.
+    pub fn connect(&mut self, pair: &mut Pair, resuming: u64, time: u64) -> u64 {
+        let linked = pair.line_connect(self.line, &self.hold, resuming, time);
+        self.line = linked.line;
+        linked.answer
+    }
+
+    /// One scrap, compared with the twin's; the line goes on with what the library hands back.
+    pub fn scrap(&mut self, pair: &mut Pair, scrap: &[u8], allowed: u64, time: u64) -> MmdhHeard {
+        let heard = pair.scrap(self.line, (&self.tables, &self.hold), scrap, allowed, time);
+        self.line = heard.line;
+        self.tables.copy(pair.after());
+        self.hold.copy_from_slice(pair.hold_after());
+        heard
+    }
+
+    /// A scrap in calls with so many units allowed, until nothing more is said or one is refused: the last answer of each call,
+    /// and how many units were accepted.
+    pub fn hear(&mut self, pair: &mut Pair, scrap: &[u8], allowed: u64, time: u64) -> (Vec<u64>, u64) {
+        let (mut answers, mut accepted, mut rest) = (Vec::new(), 0, scrap);
+        loop {
+            let heard = self.scrap(pair, rest, allowed, time);
+            accepted += heard.accepted;
+            if heard.said == 1 {
+                answers.push(heard.answer);
+            }
+            if heard.said != 1 || heard.answer > 2 {
+                return (answers, accepted);
+            }
+            rest = &rest[heard.used as usize..];
+        }
+    }
+}
+
+/// The first bytes of a buffer, and nothing written behind them.
+fn clean_behind(front: &[u8], room: usize) -> Vec<u8> {
+    let mut hold = front.to_vec();
+    hold.resize(room, CLEAN);
+    hold
+}
+
+/// Streams by hand, cut everywhere.
+pub fn check(pair: &mut Pair) {
+    pair.tally.part("scraps by hand: every cut, length of the buffer, phase and refusal, and every byte of the buffer");
+    cuts(pair);
+    byte_by_byte(pair);
+    lengths(pair);
+    buffers(pair);
+    too_long_in_time(pair);
+    overfull(pair);
+    phases(pair);
+    refusals(pair);
+    wait_whole(pair);
+    tiny(pair);
+    heartbeats(pair);
+    closed(pair);
+    connects(pair);
+    resumed(pair);
+    early(pair);
+}
+
+/// A morning from the key to the market, each unit with its answer, and the line that it comes to.
+fn morning() -> (Vec<(u64, Vec<u8>)>, Stand) {
+    let units = vec![
+        (0, unit(1, 0, &message(1105, 40))),
+        (0, unit(2, 0, &session(1102, 101))),
+        (0, unit(3, 0, &bid(700, 1, 9_730))),
+        (0, unit(4, 0, &refresh_complete(40))),
+        (0, HEARTBEAT.to_vec()),
+        (0, unit(5, 41, &nominal(700, 9_740))),
+        (2, unit(6, 42, &message(60, 12))),
+        (1, unit(7, 42, &bid(700, 2, 9_720))),
+        (0, unit(8, 43, &imbalance(5, b'B', 400))),
+    ];
+    let feed = MmdhFeed { phase: 1, next: 1, internal: 0, heard: 5_000, limit: 1_000, whole: 0, fresh: 1 };
+    (units, Stand::new(feed, frames::tables(), 60))
+}
+
+/// Every cut of a morning, with nothing between: as single calls end, and in the buffer what waited.
+fn cuts(pair: &mut Pair) {
+    let (units, start) = morning();
+    let (bytes, ends) = joined(&units);
+    let answers: Vec<u64> = units.iter().map(|unit| unit.0).collect();
+    let mut tables = start.tables.clone();
+    let (singles, calls) = by_calls(start.line.feed, &mut tables, &bytes, u64::MAX, TIME);
+    pair.tally.same(&calls.iter().map(|given| given.answer).collect(), &[&answers[..], &[3]].concat(), || {
+        "the morning by single calls".to_string()
+    });
+    let line = MmdhLine { feed: singles.feed, held: 0, dropping: 0 };
+    for at in 0..=bytes.len() {
+        let whole = ends[1..].iter().filter(|&&end| end <= at as u64).count();
+        let torn = &bytes[ends[whole] as usize..at];
+        let unit = if torn.is_empty() { &[][..] } else { &units[whole].1 };
+        for allowed in [1, 2, u64::MAX] {
+            let mut stand = start.clone();
+            let (mut all, mut accepted) = stand.hear(pair, &bytes[..at], allowed, TIME);
+            let waiting = (stand.line.held, stand.hold.clone());
+            let wanted = (torn.len() as u64, clean_behind(torn, 60));
+            pair.tally.same(&waiting, &wanted, || format!("what waits behind {} bytes", at));
+            let nothing = stand.hear(pair, &[], allowed, TIME);
+            pair.tally.same(&nothing, &(vec![], 0), || format!("nothing behind {} bytes", at));
+            let rest = stand.hear(pair, &bytes[at..], allowed, TIME);
+            all.extend(rest.0);
+            accepted += rest.1;
+            let got = (accepted, if allowed == 1 { &all } else { &answers });
+            pair.tally.same(&got, &(answers.len() as u64, &answers), || format!("cut at {}", at));
+            let wanted = Stand { line, tables: tables.clone(), hold: clean_behind(unit, 60) };
+            pair.tally.same(&stand, &wanted, || format!("where it ends, cut at {}", at));
+        }
+    }
+}
+
+/// One byte at a time, and nothing between them: each answer comes with the last byte of its unit.
+fn byte_by_byte(pair: &mut Pair) {
+    let (units, mut stand) = morning();
+    for (answer, unit) in &units {
+        for at in 0..unit.len() {
+            let (said, _) = stand.hear(pair, &unit[at..=at], 1, TIME);
+            let wanted = if at + 1 == unit.len() { vec![*answer] } else { vec![] };
+            pair.tally.same(&said, &wanted, || format!("byte {} of {:02x?}", at, unit));
+            let nothing = stand.scrap(pair, &[], u64::MAX, TIME);
+            let wanted = MmdhHeard { line: stand.line, ..MmdhHeard::default() };
+            pair.tally.same(&nothing, &wanted, || format!("nothing behind byte {}", at));
+        }
+        pair.tally.same(&&stand.hold[..unit.len()], &&unit[..], || "the unit lies in front".to_string());
+    }
+}
+
+/// Every length of a morning with every allowed number: as many units as are whole and allowed; the rest waits, or is left where
+/// the number was reached.
+fn lengths(pair: &mut Pair) {
+    let (units, start) = morning();
+    let (bytes, ends) = joined(&units);
+    for len in 0..=bytes.len() {
+        let whole = ends[1..].iter().filter(|&&end| end <= len as u64).count() as u64;
+        for allowed in [0, 1, 2, 3, 8, 9, 10, 1 << 32, u64::MAX] {
+            let mut stand = start.clone();
+            let heard = stand.scrap(pair, &bytes[..len], allowed, TIME);
+            let accepted = whole.min(allowed);
+            let end = ends[accepted as usize];
+            let (said, answer, used, held) = match accepted {
+                _ if accepted < allowed => (0, 0, len as u64, len as u64 - end),
+                0 => (0, 0, 0, 0),
+                _ => (1, units[accepted as usize - 1].0, end, 0),
+            };
+            let wanted = (said, answer, accepted, used, held, 0);
+            let (line, torn) = (stand.line, &bytes[len - held as usize..len]);
+            let got = (heard.said, heard.answer, heard.accepted, heard.used, line.held, line.dropping);
+            pair.tally.same(&got, &wanted, || format!("{} bytes, {} allowed", len, allowed));
+            pair.tally.same(&stand.hold, &clean_behind(torn, 60), || format!("the buffer, {} bytes", len));
+            let next = accepted + 1 - u64::from(accepted > 4);
+            pair.tally.same(&line.feed.next, &next, || format!("next after {} units", accepted));
+        }
+    }
+}
+
+/// What a unit that is passed over, or is too short for a type, is answered; from how many bytes on it is finished.
+fn sized(size: usize) -> (Vec<u8>, u64, usize) {
+    let mut unit = unit(7, 41, &message(60, size.max(4)));
+    unit[20..22].copy_from_slice(&(size as u16).to_le_bytes());
+    unit.truncate((20 + size).max(SIZED));
+    (unit, if size < 4 { 12 } else { 2 }, (20 + size).max(SIZED))
+}
+
+/// The line after a refusal, from a feed in Live.
+fn after_refusal(answer: u64) -> MmdhLine {
+    let feed = match answer {
+        10 | 11 => LIVE,
+        12..=14 | 22 => MmdhFeed { phase: 5, ..LIVE },
+        _ => MmdhFeed { phase: 5, whole: 0, ..LIVE },
+    };
+    MmdhLine { feed, held: 0, dropping: 1 }
+}
+
+/// Every short buffer, and some that are longer, with units that are shorter, as long and longer, in two scraps: 22 as soon as it
+/// is known, and nothing written then.
+fn buffers(pair: &mut Pair) {
+    for room in (0..=60).chain([61, 63, 64, 65, 79, 80, 81, 100, 600]) {
+        for size in [2, 3, 4, 5, 8, 12, 20, 36, 40, 41, 60] {
+            let (unit, answer, finished) = sized(size);
+            for at in (0..=unit.len()).filter(|&at| at < 3 || (19..25).contains(&at) || at + 2 > unit.len()) {
+                let mut stand = Stand::new(LIVE, frames::tables(), room);
+                let mut known = 0;
+                for piece in [&unit[..at], &unit[at..]] {
+                    let before = stand.hold.clone();
+                    let heard = stand.scrap(pair, piece, 1, TIME);
+                    known += piece.len();
+                    let too_long = room < SIZED || (known >= SIZED && 20 + size > room);
+                    let said = match () {
+                        () if too_long => Some(22),
+                        () if known >= finished => Some(answer),
+                        () => None,
+                    };
+                    let got = (heard.said, heard.answer, heard.used);
+                    let wanted = (u64::from(said.is_some()), said.unwrap_or(0), piece.len() as u64);
+                    pair.tally.same(&got, &wanted, || format!("buffer of {}, size {}, cut at {}", room, size, at));
+                    if too_long {
+                        pair.tally.same(&stand.hold, &before, || format!("buffer of {}, size {}", room, size));
+                    }
+                    if wanted.1 > 2 {
+                        pair.tally.same(&stand.line, &after_refusal(wanted.1), || format!("refused with {:?}", said));
+                    }
+                    if said.is_some() {
+                        break;
+                    }
+                }
+            }
+        }
+    }
+}
+
+/// The last byte of MsgSize tells that a unit has no room, wherever it comes: in one scrap, torn, behind other units, and with all
+/// of it there.
+fn too_long_in_time(pair: &mut Pair) {
+    let before = unit(7, 41, &nominal(700, 9_740));
+    for room in [40, 255, 256, 300, 65_554, 65_555] {
+        for over in 0..=1 {
+            let size = room - 20 + over;
+            if size > 65_535 {
+                continue;
+            }
+            let long = unit(8, 42, &message(60, size));
+            let stream = [&before[..], &long].concat();
+            for at in [0, 20, 32, 33, 51, 52, 53, 54, 60, stream.len() - 1, stream.len()] {
+                let at = at.min(stream.len());
+                let mut stand = Stand::new(LIVE, frames::tables(), room);
+                let (mut said, _) = stand.hear(pair, &stream[..at], 1, TIME);
+                let known = at >= 32 + SIZED;
+                let wanted = match (over, at) {
+                    (1, _) if known => vec![0, 22],
+                    (0, _) if at == stream.len() => vec![0, 2],
+                    _ => vec![0; usize::from(at >= 32)],
+                };
+                pair.tally.same(&said, &wanted, || format!("{} bytes of room, size {}, cut at {}", room, size, at));
+                said.extend(stand.hear(pair, &stream[at..], 1, TIME).0);
+                let wanted = vec![0, if over == 1 { 22 } else { 2 }];
+                pair.tally.same(&said, &wanted, || format!("{} bytes of room, size {}", room, size));
+            }
+        }
+    }
+}
+
+/// More waits than there is room for, and a buffer too short for a header: 22 is due, whatever comes.
+fn overfull(pair: &mut Pair) {
+    let unit = unit(7, 41, &nominal(700, 9_740));
+    for room in [0u64, 1, 20, 21, 22, 23, 64] {
+        for held in [0, 1, room, room + 1, room + 2, 1 << 32, u64::MAX] {
+            if held <= room && room >= 22 {
+                continue;
+            }
+            for scrap in [&[][..], &[20], &HEARTBEAT, &unit] {
+                for (dropping, allowed) in [(0, 0), (0, 1), (0, u64::MAX), (9, 1), (9, 0)] {
+                    let mut stand = Stand::new(LIVE, frames::tables(), room as usize);
+                    stand.line = MmdhLine { held, dropping, ..stand.line };
+                    let before = stand.clone();
+                    let heard = stand.scrap(pair, scrap, allowed, TIME);
+                    let (line, used) = (before.line, scrap.len() as u64);
+                    let wanted = match (dropping, allowed) {
+                        (_, 0) => MmdhHeard { line, ..MmdhHeard::default() },
+                        (0, _) => MmdhHeard { said: 1, answer: 22, accepted: 0, used, line: after_refusal(22) },
+                        _ => MmdhHeard { used, line, ..MmdhHeard::default() },
+                    };
+                    pair.tally.same(&heard, &wanted, || format!("{} wait in {}, {} allowed", held, room, allowed));
+                    let same = (&stand.tables, &stand.hold) == (&before.tables, &before.hold);
+                    pair.tally.holds(same, || format!("{} wait in {}: something was written", held, room));
+                }
+            }
+        }
+    }
+}
+
+/// A feed as it comes back from a call that does something.
+pub fn plainly(feed: MmdhFeed) -> MmdhFeed {
+    let phase = if feed.phase > 6 { 5 } else { feed.phase };
+    MmdhFeed { phase, whole: feed.whole.min(1), fresh: feed.fresh.min(1), ..feed }
+}
+
+/// Every phase with odd numbers, before the last heard time and after it: 10 and 11 only where a unit is finished or 22 is due,
+/// and nothing at all where none is allowed or all is dropped.
+fn phases(pair: &mut Pair) {
+    let unit = unit(7, 41, &nominal(700, 9_740));
+    let long = frames::units()[5].1.clone();
+    // bytes, and whether a unit is finished or has no room in 40 bytes
+    let scraps = [(&[][..], false), (&unit[..31], false), (&unit, true), (&HEARTBEAT, true), (&long[..22], true)];
+    for phase in PHASES {
+        for (whole, fresh, dropping) in [(0, 0, 0), (1, 1, 0), (2, u64::MAX, 0), (7, 256, 1), (0, 2, u64::MAX)] {
+            let feed = MmdhFeed { phase, whole, fresh, ..LIVE };
+            let open = (1..=4).contains(&phase);
+            for time in [0, LIVE.heard - 1, LIVE.heard, TIME, u64::MAX] {
+                for (scrap, due) in scraps {
+                    for allowed in [0, 1, 2, u64::MAX] {
+                        let mut stand = Stand::new(feed, frames::tables(), 40);
+                        stand.line.dropping = dropping;
+                        let handed = stand.line;
+                        let heard = stand.scrap(pair, scrap, allowed, time);
+                        let (held, used) = (if due { 0 } else { scrap.len() as u64 }, scrap.len() as u64);
+                        let quiet = MmdhHeard { line: handed, ..MmdhHeard::default() };
+                        let refused = |answer| {
+                            let line = MmdhLine { feed: plainly(feed), held: 0, dropping: 1 };
+                            MmdhHeard { said: 1, answer, accepted: 0, used, line }
+                        };
+                        let waits = MmdhLine { feed: plainly(feed), held, dropping: 0 };
+                        let wanted = match allowed {
+                            0 => quiet,
+                            _ if dropping != 0 => MmdhHeard { used, ..quiet },
+                            _ if !due => MmdhHeard { used, line: waits, ..quiet },
+                            _ if time < LIVE.heard => refused(10),
+                            _ if !open => refused(11),
+                            _ => heard,
+                        };
+                        let input = || format!("{:?} at {}, {} allowed, {:02x?}", handed, time, allowed, scrap);
+                        pair.tally.same(&heard, &wanted, input);
+                    }
+                }
+            }
+        }
+    }
+}
+
+/// Every refusal at every place, torn at every byte: what stands before it stays, the refused unit lies at the buffer's front where
+/// some of it waited, nothing waits, and what follows is dropped, unit for unit as good as it is.
+fn refusals(pair: &mut Pair) {
+    let mut before = frames::tables();
+    // one free slot goes to 2 and the other to 700, so that 1 finds none
+    before.books[2 * SLOT] = 2;
+    for at in 0..=frames::units().len() {
+        let (seq, internal) = (7 + at as u32 - u32::from(at > 3), 50);
+        for (answer, bad) in frames::refused(seq, internal) {
+            // before the first unit a slot is free
+            if at == 0 && answer == 17 {
+                continue;
+            }
+            let mut units = frames::units();
+            units.insert(at, (answer, bad.clone()));
+            let (bytes, ends) = joined(&units);
+            let (from, answers) = (ends[at] as usize, units[..=at].iter().map(|unit| unit.0).collect::<Vec<u64>>());
+            for torn in (0..bad.len()).step_by(if at < 2 { 1 } else { 7 }) {
+                let mut stand = Stand::new(LIVE, before.clone(), 64);
+                let (mut said, _) = stand.hear(pair, &bytes[..from + torn], 1, TIME);
+                let kept = stand.tables.clone();
+                let feed = MmdhFeed { phase: 5, whole: u64::from(answer < 15), ..stand.line.feed };
+                said.extend(stand.hear(pair, &bytes[from + torn..], 1, TIME).0);
+                let input = || format!("{} at {}, torn at {}", answer, at, torn);
+                pair.tally.same(&said, &answers, input);
+                let front = if torn == 0 { &[][..] } else { &bad };
+                let line = MmdhLine { feed, held: 0, dropping: 1 };
+                let wanted = Stand { line, tables: kept, hold: clean_behind(front, 64) };
+                pair.tally.same(&stand, &wanted, input);
+                let heard = stand.scrap(pair, &bytes, 1, TIME);
+                let dropped = MmdhHeard { used: bytes.len() as u64, line, ..MmdhHeard::default() };
+                pair.tally.same(&(heard, stand), &(dropped, wanted), input);
+            }
+        }
+    }
+}
+
+/// Whole units that wait already, as in a line made by hand: each that is accepted makes the bytes behind it move to the front.
+fn wait_whole(pair: &mut Pair) {
+    let units = frames::units();
+    let (bytes, ends) = joined(&units);
+    let mut by_singles = frames::tables();
+    let (singles, _) = by_calls(LIVE, &mut by_singles, &bytes, u64::MAX, TIME);
+    for held in 0..=bytes.len() {
+        let mut start = Stand::new(LIVE, frames::tables(), bytes.len() + 9);
+        start.hold[..held].copy_from_slice(&bytes[..held]);
+        start.line.held = held as u64;
+        let mut stand = start.clone();
+        let first = stand.scrap(pair, &bytes[held..], 1, TIME);
+        let length = ends[1] as usize;
+        let mut hold = start.hold.clone();
+        if held >= length {
+            hold.copy_within(length..held, 0);
+        } else if held > 0 {
+            hold[held..length].copy_from_slice(&bytes[held..length]);
+        }
+        let got = (first.answer, first.used, stand.line.held, stand.hold);
+        let wanted = (0, length.saturating_sub(held) as u64, held.saturating_sub(length) as u64, hold);
+        pair.tally.same(&got, &wanted, || format!("the first of the units, {} wait", held));
+        for allowed in [1, 3, u64::MAX] {
+            let mut stand = start.clone();
+            let (_, accepted) = stand.hear(pair, &bytes[held..], allowed, TIME);
+            let got = (accepted, stand.line, &stand.tables);
+            let line = MmdhLine { feed: singles.feed, held: 0, dropping: 0 };
+            pair.tally.same(&got, &(units.len() as u64, line, &by_singles), || format!("{} wait", held));
+        }
+        // refused while it waits whole: nothing is written
+        let mut stand = start.clone();
+        stand.line.feed.next = 99;
+        stand.hear(pair, &bytes[held..], 1, TIME);
+        if held == 0 || held >= length {
+            pair.tally.same(&stand.hold, &start.hold, || format!("refused, {} wait", held));
+        }
+    }
+}
+
+/// MsgSize from 0 to 3, torn at every byte: finished at 22 bytes or at its end, and 12.
+fn tiny(pair: &mut Pair) {
+    for size in 0..=3 {
+        let (unit, answer, finished) = sized(size);
+        let stream = [&unit[..], &HEARTBEAT].concat();
+        for at in 0..=finished {
+            for room in [22, 23, 24, 60] {
+                let mut stand = Stand::new(LIVE, frames::tables(), room);
+                let (said, _) = stand.hear(pair, &stream[..at], 1, TIME);
+                let too_long = 20 + size > room;
+                let due = at >= if too_long { SIZED } else { finished };
+                let answer = if too_long { 22 } else { answer };
+                let wanted = if due { vec![answer] } else { vec![] };
+                pair.tally.same(&said, &wanted, || format!("size {}, {} bytes in {}", size, at, room));
+                let said = [said, stand.hear(pair, &stream[at..], 1, TIME).0].concat();
+                pair.tally.same(&said, &vec![answer], || format!("size {}, cut at {} in {}", size, at, room));
+            }
+        }
+    }
+}
+
+/// A heartbeat is finished at 20 bytes, whatever comes behind it and in a buffer of 22 too; torn at every byte.
+fn heartbeats(pair: &mut Pair) {
+    for behind in [&[][..], &[255], &[255, 255], &[255; 12], &HEARTBEAT] {
+        let stream = [&HEARTBEAT[..], behind].concat();
+        for at in 0..=stream.len() {
+            let mut stand = Stand::new(LIVE, frames::tables(), 22);
+            let (said, _) = stand.hear(pair, &stream[..at], 1, TIME);
+            let wanted = vec![0; at / 20];
+            pair.tally.same(&said, &wanted, || format!("{} bytes and {:?}", at, behind));
+            let said = [said, stand.hear(pair, &stream[at..], 1, TIME).0].concat();
+            pair.tally.same(&said, &vec![0; stream.len() / 20], || format!("cut at {}, then {:?}", at, behind));
+            let heard = MmdhFeed { heard: TIME, ..LIVE };
+            let held = (stream.len() % 20) as u64;
+            let line = MmdhLine { feed: heard, held, dropping: 0 };
+            pair.tally.same(&stand.line, &line, || format!("cut at {}, then {:?}", at, behind));
+        }
+    }
+}
+
+/// Behind a logout half a unit only waits; a finished one is 11, where 22 is due it is 11 too, and then what follows is dropped.
+fn closed(pair: &mut Pair) {
+    let logout = unit(7, 0, &session(1103, 6));
+    for (behind, finished) in [(&HEARTBEAT[..], 20), (&frames::units()[0].1, 56), (&[255; 30], 22)] {
+        for at in 0..=behind.len() {
+            let mut stand = Stand::new(LIVE, frames::tables(), 60);
+            let (said, _) = stand.hear(pair, &[&logout[..], &behind[..at]].concat(), 1, TIME);
+            let due = at >= finished;
+            pair.tally.same(&said, &[0, 11][..1 + usize::from(due)].to_vec(), || format!("{} bytes behind", at));
+            let held = if due { 0 } else { at as u64 };
+            let feed = MmdhFeed { phase: 6, next: 8, heard: TIME, ..LIVE };
+            let line = MmdhLine { feed, held, dropping: u64::from(due) };
+            pair.tally.same(&stand.line, &line, || format!("{} bytes behind a logout", at));
+            let rest = stand.hear(pair, &behind[at..], 1, TIME).0;
+            pair.tally.same(&rest, &vec![11; usize::from(!due)], || format!("the rest of {} bytes", at));
+        }
+    }
+}
+
+/// Connects: 10, then 20, then 22, and then all as it was handed in; or nothing waits and nothing is dropped.
+fn connects(pair: &mut Pair) {
+    for phase in PHASES {
+        for (whole, internal, fresh) in [(0, 0, 0), (1, 0, 1), (1, 40, 7), (0, 40, 1), (9, 1, 2)] {
+            for (held, dropping) in [(0, 0), (5, 0), (0, 1), (u64::MAX, u64::MAX)] {
+                let feed = MmdhFeed { phase, whole, internal, fresh, ..LIVE };
+                let line = MmdhLine { feed, held, dropping };
+                for resuming in [0, 1, u64::MAX] {
+                    for time in [LIVE.heard - 1, LIVE.heard, u64::MAX] {
+                        for room in [0, 1, 20, 21, 22, 23, 600] {
+                            let answer = match room {
+                                _ if time < LIVE.heard => 10,
+                                _ if resuming != 0 && (whole == 0 || internal == 0) => 20,
+                                0..=21 => 22,
+                                _ => 0,
+                            };
+                            let fresh = u64::from(resuming == 0);
+                            let feed = MmdhFeed { phase: 1, next: 1, heard: time, fresh, ..plainly(feed) };
+                            let connected = MmdhLine { feed, held: 0, dropping: 0 };
+                            let wanted = MmdhLinked { answer, line: if answer == 0 { connected } else { line } };
+                            let linked = pair.line_connect(line, &vec![CLEAN; room], resuming, time);
+                            pair.tally.same(&linked, &wanted, || format!("{:?}, buffer of {}", line, room));
+                        }
+                    }
+                }
+            }
+        }
+    }
+}
+
+/// After 22 all that has come is whole: the line resumes and takes what it missed. A refused connect leaves it dropping.
+fn resumed(pair: &mut Pair) {
+    let mut stand = Stand::new(LIVE, frames::tables(), 56);
+    let long = unit(8, 42, &message(60, 37));
+    let (said, _) = stand.hear(pair, &[&frames::units()[0].1[..], &long].concat(), 1, TIME);
+    pair.tally.same(&said, &vec![0, 22], || "a unit that has no room".to_string());
+    let lost = stand.clone();
+    for (resuming, time, room, answer) in [(1, TIME - 1, 56, 10), (1, TIME, 21, 22), (0, TIME, 0, 22)] {
+        let linked = pair.line_connect(stand.line, &vec![CLEAN; room], resuming, time);
+        pair.tally.same(&linked, &MmdhLinked { answer, line: lost.line }, || format!("refused with {}", answer));
+        let heard = stand.scrap(pair, &HEARTBEAT, 1, TIME);
+        let wanted = MmdhHeard { used: 20, line: lost.line, ..MmdhHeard::default() };
+        pair.tally.same(&(heard, &stand), &(wanted, &lost), || "and still dropping".to_string());
+    }
+    let answer = stand.connect(pair, 1, TIME);
+    pair.tally.same(&answer, &0, || "resuming after 22".to_string());
+    let again = [
+        unit(1, 0, &message(1105, 4)),
+        unit(2, 0, &session(1102, 0)),
+        unit(3, 41, &bid(700, 1, 9)),
+        unit(4, 42, &nominal(700, 9)),
+    ];
+    let (said, _) = stand.hear(pair, &again.concat(), 1, TIME);
+    pair.tally.same(&said, &vec![0, 0, 1, 0], || "what it missed".to_string());
+    let (feed, book) = (stand.line.feed, stand.tables.books[SLOT]);
+    pair.tally.same(&(feed.phase, feed.internal, feed.whole, book), &(4, 42, 1, 700), || "live again".to_string());
+}
+
+/// 10 in Live: the feed is as it was, so the badge is green to the limit, over bytes that are dropped.
+fn early(pair: &mut Pair) {
+    for due in [&HEARTBEAT[..], &frames::units()[0].1, &frames::refused(7, 41)[0].1, &[255; 22]] {
+        let mut stand = Stand::new(LIVE, frames::tables(), 64);
+        let torn = stand.scrap(pair, &due[..9], 1, LIVE.heard - 1);
+        pair.tally.same(&(torn.said, stand.line.held), &(0, 9), || "half a unit waits".to_string());
+        let heard = stand.scrap(pair, &due[9..], 1, LIVE.heard - 1);
+        let line = after_refusal(10);
+        let wanted = MmdhHeard { said: 1, answer: 10, accepted: 0, used: due.len() as u64 - 9, line };
+        pair.tally.same(&heard, &wanted, || "10 when it is finished or 22 is due".to_string());
+        for time in [LIVE.heard, LIVE.heard + LIVE.limit] {
+            let dropped = stand.scrap(pair, &HEARTBEAT, 1, time);
+            let wanted = MmdhHeard { used: 20, line, ..MmdhHeard::default() };
+            pair.tally.same(&dropped, &wanted, || "and then all is dropped".to_string());
+            let feed = dropped.line.feed;
+            pair.tally.same(&raw::badge(feed.phase, feed.heard, feed.limit, time), &1, || "under green".to_string());
+        }
+        let badge = raw::badge(line.feed.phase, line.feed.heard, line.feed.limit, LIVE.heard + LIVE.limit + 1);
+        pair.tally.same(&badge, &0, || "to the limit".to_string());
+        let answer = stand.connect(pair, 1, TIME);
+        pair.tally.same(&answer, &0, || "until a connect".to_string());
+    }
+}
