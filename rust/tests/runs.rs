@@ -11,7 +11,7 @@ use crate::tally::{Call, Meets, StripMeets};
 use exchange::dice::Dice;
 use exchange::market::Market;
 use exchange::{message, refresh_complete, session};
-use mmdh::raw::{self, MmdhFeed, MmdhFrame, MmdhGiven};
+use mmdh::raw::{self, MmdhFeed, MmdhFrame, MmdhGiven, MmdhLine};
 use std::fmt::Debug;
 use twin::Given;
 
@@ -240,9 +240,9 @@ fn unit(dice: &mut Dice, seq: u32, internal: u32, message: &[u8]) -> Vec<u8> {
     }
 }
 
-/// A long valid run: every unit taken, by frames and by single calls in turn, and no difference at the end.
+/// A long valid run: every unit taken, by frames, by single calls and in scraps in turn, and no difference at the end.
 pub fn check_market(pair: &mut Pair, units: u32) {
-    pair.tally.part("frames, and as many single units, of one long valid run over 128 books and strips");
+    pair.tally.part("frames, units by single calls and in scraps, of one long valid run over 128 books and strips");
     let listed: Vec<(u32, i32)> = (0..128).map(|k| (1 + 700 * k, 200 + 1_111 * k as i32)).collect();
     let mut market = Market::new(99, &listed);
     let mut feed = MmdhFeed { phase: 4, next: 1, internal: 0, heard: 0, limit: 1_000, whole: 1, fresh: 1 };
@@ -257,10 +257,10 @@ pub fn check_market(pair: &mut Pair, units: u32) {
             bytes.extend(exchange::unit(number, number, &sent(&mut market)));
         }
         let time = u64::from(number);
-        let given = if market.dice().once_in(2) {
-            raw::arrive_frame(feed, tables.lend(), &bytes, count, time)
-        } else {
-            by_calls(feed, &mut tables, &bytes, count, time).0
+        let given = match market.dice().below(3) {
+            0 => raw::arrive_frame(feed, tables.lend(), &bytes, count, time),
+            1 => by_calls(feed, &mut tables, &bytes, count, time).0,
+            _ => in_scraps(feed, &mut tables, &bytes, time, market.dice()),
         };
         twins = twin::arrive_frame(twins, twin_tables.lend_twin(), &bytes, count, time).feed;
         let wanted = MmdhFrame { answer: 0, accepted: count, used: bytes.len() as u64, feed: plain_feed(twins) };
@@ -268,6 +268,20 @@ pub fn check_market(pair: &mut Pair, units: u32) {
         feed = given.feed;
     }
     pair.tally.same(&tables, &twin_tables, || "the tables after the long run".to_string());
+}
+
+/// All units in scraps of any length, told as a frame; its answer is how many bytes wait and whether any are dropped.
+fn in_scraps(feed: MmdhFeed, tables: &mut Tables, bytes: &[u8], time: u64, dice: &mut Dice) -> MmdhFrame {
+    let (mut line, mut hold) = (MmdhLine { feed, held: 0, dropping: 0 }, [0; 600]);
+    let (mut accepted, mut used) = (0, 0);
+    while used < bytes.len() {
+        let end = bytes.len().min(used + dice.place(200));
+        let heard = raw::line_scrap(line, tables.lend(), &mut hold, &bytes[used..end], u64::MAX, time);
+        line = heard.line;
+        accepted += heard.accepted;
+        used = end;
+    }
+    MmdhFrame { answer: line.held + line.dropping, accepted, used: used as u64, feed: line.feed }
 }
 
 /// A message to some book or strip.
