@@ -1,7 +1,8 @@
 //! A course: a table with 128 books or strips spread over all its slots, and a stream of messages that all fit.
 
 use exchange::market::Market;
-use mmdh::raw::{self, Lent, MmdhFeed, BOOK_WORDS, STRIP_WORDS};
+use mmdh::raw::{self, Lent, MmdhFeed, MmdhLine, BOOK_WORDS, STRIP_WORDS};
+use mmdh::single::LONGEST;
 use twin::{Answer, Feed, Frame, Phase};
 
 pub const BOOKS: usize = 128;
@@ -32,6 +33,15 @@ pub const WAYS: [Way; 2] = [Way::Single, Way::Frames];
 /// Units of a frame.
 pub const FRAME: usize = 32;
 
+/// How the library is handed scraps: a whole message in each, or each message torn in two.
+#[derive(Clone, Copy)]
+pub enum Scraps {
+    Whole,
+    Torn,
+}
+
+pub const SCRAPS: [Scraps; 2] = [Scraps::Whole, Scraps::Torn];
+
 /// The words of both tables.
 #[derive(Clone, PartialEq, Eq)]
 pub struct Tables {
@@ -60,6 +70,8 @@ pub struct Course {
     messages: usize,
     tables: Tables,
     stream: Vec<u8>,
+    /// Where each message ends in the stream.
+    ends: Vec<usize>,
 }
 
 /// Where a walk ended.
@@ -109,8 +121,12 @@ impl Course {
     }
 
     fn of(slots: usize, messages: usize, tables: Tables, mut next: impl FnMut() -> Vec<u8>) -> Course {
-        let units = (1..=messages as u32).map(|number| exchange::unit(number, number, &next()));
-        Course { slots, messages, tables, stream: units.collect::<Vec<_>>().concat() }
+        let (mut stream, mut ends) = (Vec::new(), Vec::with_capacity(messages));
+        for number in 1..=messages as u32 {
+            stream.extend(exchange::unit(number, number, &next()));
+            ends.push(stream.len());
+        }
+        Course { slots, messages, tables, stream, ends }
     }
 
     pub fn slots(&self) -> usize {
@@ -132,6 +148,36 @@ impl Course {
         End { taken, tables }
     }
 
+    /// Where the library ends in scraps.
+    pub fn end_in(&self, scraps: Scraps) -> End {
+        let mut tables = self.tables();
+        let taken = self.walk_in(scraps, &mut tables);
+        End { taken, tables }
+    }
+
+    /// All messages by the library's line; how many were taken.
+    #[inline(never)]
+    pub fn walk_in(&self, scraps: Scraps, tables: &mut Tables) -> usize {
+        let mut line = MmdhLine { feed: LIVE, held: 0, dropping: 0 };
+        let mut hold = vec![0; LONGEST];
+        let (mut from, mut taken) = (0, 0);
+        for &end in &self.ends {
+            let message = &self.stream[from..end];
+            let torn = match scraps {
+                Scraps::Whole => 0,
+                Scraps::Torn => message.len() / 2,
+            };
+            if torn > 0 {
+                line = raw::line_scrap(line, tables.lend(), &mut hold, &message[..torn], u64::MAX, 1).line;
+            }
+            let heard = raw::line_scrap(line, tables.lend(), &mut hold, &message[torn..], u64::MAX, 1);
+            line = heard.line;
+            taken += heard.accepted as usize;
+            from = end;
+        }
+        taken
+    }
+
     /// The first messages; how many were taken.
     pub fn walk(&self, walker: Walker, way: Way, tables: &mut Tables, messages: usize) -> usize {
         match (walker, way) {
@@ -146,7 +192,7 @@ impl Course {
 
     #[inline(never)]
     fn frames_library(&self, tables: &mut Tables, messages: usize) -> usize {
-        let mut feed = MmdhFeed { phase: 4, next: 1, internal: 0, heard: 0, limit: 1_000, whole: 1, fresh: 1 };
+        let mut feed = LIVE;
         self.in_frames(messages, |bytes, allowed| {
             let frame = raw::arrive_frame(feed, tables.lend(), bytes, allowed, 1);
             feed = frame.feed;
@@ -182,7 +228,7 @@ impl Course {
 
     #[inline(never)]
     fn walk_library(&self, tables: &mut Tables, messages: usize) -> usize {
-        let mut feed = MmdhFeed { phase: 4, next: 1, internal: 0, heard: 0, limit: 1_000, whole: 1, fresh: 1 };
+        let mut feed = LIVE;
         let mut at = 0;
         for taken in 0..messages {
             let given = raw::arrive(feed, tables.lend(), &self.stream[at..], 1);
@@ -224,6 +270,8 @@ impl Course {
         messages
     }
 }
+
+const LIVE: MmdhFeed = MmdhFeed { phase: 4, next: 1, internal: 0, heard: 0, limit: 1_000, whole: 1, fresh: 1 };
 
 fn live() -> Feed {
     Feed { phase: Phase::Live, next: 1, internal: 0, heard: 0, limit: 1_000, whole: true, fresh: true }

@@ -1,14 +1,14 @@
 //! Nanoseconds a message: single arrivals through the C calls, against the plain twin and the tuned one.
 //! 128 books, 2 to 4 entries a message, every message fits; all three must end with the same tables.
-//! The same for strip messages of all five types, over 128 strips, and for frames of book messages against single calls. And
-//! microseconds a repaint of all their sides, by sides at once against single reads.
+//! The same for strip messages of all five types, over 128 strips, for frames of book messages against single calls, and for
+//! scraps, whole messages and torn ones. And microseconds a repaint of all their sides, by sides at once against single reads.
 
 #![forbid(unsafe_code)]
 
 mod course;
 mod repaint;
 
-use course::{Course, Walker, Way, FRAME, WALKERS, WAYS};
+use course::{Course, Scraps, Tables, Walker, Way, FRAME, SCRAPS, WALKERS, WAYS};
 use std::process::exit;
 use std::time::Instant;
 
@@ -23,27 +23,37 @@ const STRIPS: (usize, usize, usize) = (128, 10_000, 60);
 /// Messages of a course whose instructions are counted; only some of them are walked.
 const COUNTED: usize = 1_500;
 
-/// The best pass of each of the three in each of these ways, in nanoseconds a message, all taking turns.
-fn measure<const N: usize>(course: &Course, ways: [Way; N], passes: usize) -> [[f64; 3]; N] {
-    let mut best = [[f64::INFINITY; 3]; N];
+/// One way to walk a course.
+type Walk<'a> = Box<dyn Fn(&mut Tables) -> usize + 'a>;
+
+fn walk(course: &Course, walker: Walker, way: Way) -> Walk<'_> {
+    Box::new(move |tables| course.walk(walker, way, tables, course.messages()))
+}
+
+fn walk_in(course: &Course, scraps: Scraps) -> Walk<'_> {
+    Box::new(move |tables| course.walk_in(scraps, tables))
+}
+
+/// The best pass of each of these walks, in nanoseconds a message, all taking turns.
+fn measure<const N: usize>(course: &Course, walks: [Walk<'_>; N], passes: usize) -> [f64; N] {
+    let mut best = [f64::INFINITY; N];
     let start = course.tables();
     let mut tables = course.tables();
     for _ in 0..passes {
-        for (way, best) in ways.iter().zip(&mut best) {
-            for (walker, best) in WALKERS.iter().zip(best) {
-                tables.copy(&start);
-                let began = Instant::now();
-                course.walk(*walker, *way, &mut tables, course.messages());
-                *best = best.min(began.elapsed().as_nanos() as f64 / course.messages() as f64);
-            }
+        for (walk, best) in walks.iter().zip(&mut best) {
+            tables.copy(&start);
+            let began = Instant::now();
+            walk(&mut tables);
+            *best = best.min(began.elapsed().as_nanos() as f64 / course.messages() as f64);
         }
     }
     best
 }
 
-/// All three end with the same tables, by single calls and by frames, every message taken.
+/// All three end with the same tables, by single calls and by frames, every message taken; the library in scraps too.
 fn check(course: &Course) -> Result<(), String> {
-    let ends: Vec<_> = WAYS.iter().flat_map(|&way| WALKERS.map(|walker| course.end(walker, way))).collect();
+    let by_calls = WAYS.iter().flat_map(|&way| WALKERS.map(|walker| course.end(walker, way)));
+    let ends: Vec<_> = by_calls.chain(SCRAPS.map(|scraps| course.end_in(scraps))).collect();
     if ends.iter().any(|end| end.taken != course.messages()) {
         return Err(format!("{} slots: a message was not taken", course.slots()));
     }
@@ -58,17 +68,19 @@ fn short() -> Result<(), String> {
         let course = Course::new(slots, 300);
         check(&course)?;
         let messages = course.messages();
-        println!("{:>5} slots: {} messages, the same tables three times, and by frames of {}", slots, messages, FRAME);
+        println!("{:>5} slots: {} messages, {}", slots, messages, same());
         println!("{:>5} slots: {} rows, the same by sides and by single reads", slots, repaint::check(&course)?);
     }
     let course = Course::strips(STRIPS.0, 300);
     check(&course)?;
     let messages = course.messages();
-    println!(
-        "{:>5} slots: {} strip messages, the same tables three times, and by frames of {}",
-        STRIPS.0, messages, FRAME
-    );
+    println!("{:>5} slots: {} strip messages, {}", STRIPS.0, messages, same());
     Ok(())
+}
+
+/// What a check has found.
+fn same() -> String {
+    format!("the same tables three times, by frames of {}, and in scraps", FRAME)
 }
 
 fn full() -> Result<(), String> {
@@ -81,6 +93,7 @@ fn full() -> Result<(), String> {
     println!("slots  library    plain    tuned  library/plain  library/tuned");
     timed(&Course::strips(STRIPS.0, STRIPS.1), STRIPS.2)?;
     frames()?;
+    scraps()?;
     repaints()
 }
 
@@ -91,7 +104,9 @@ fn frames() -> Result<(), String> {
     for (slots, messages, passes) in COURSES {
         let course = Course::new(slots, messages);
         check(&course)?;
-        let [single, frame] = measure(&course, WAYS, passes);
+        let walks: [Walk<'_>; 6] = std::array::from_fn(|at| walk(&course, WALKERS[at % 3], WAYS[at / 3]));
+        let times = measure(&course, walks, passes);
+        let (single, frame) = times.split_at(3);
         print!("{:>5}", slots);
         frame.iter().zip(single).for_each(|(frame, single)| print!(" {:>8.1} {:>8.2}", frame, frame / single));
         println!(" {:>14.2} {:>14.2}", frame[0] / frame[1], frame[0] / frame[2]);
@@ -99,10 +114,34 @@ fn frames() -> Result<(), String> {
     Ok(())
 }
 
+/// The library in scraps, a whole message in each and each torn in two, beside the ratio to its single calls.
+fn scraps() -> Result<(), String> {
+    println!("\nnanoseconds a book message of the library in scraps, and scraps/single, best of alternating passes");
+    println!("slots   single    whole  /single     torn  /single");
+    for (slots, messages, passes) in COURSES {
+        let course = Course::new(slots, messages);
+        check(&course)?;
+        let [whole, torn] = SCRAPS.map(|scraps| walk_in(&course, scraps));
+        let walks = [walk(&course, Walker::Library, Way::Single), whole, torn];
+        let [single, whole, torn] = measure(&course, walks, passes);
+        println!(
+            "{:>5} {:>8.1} {:>8.1} {:>8.2} {:>8.1} {:>8.2}",
+            slots,
+            single,
+            whole,
+            whole / single,
+            torn,
+            torn / single
+        );
+    }
+    Ok(())
+}
+
 /// One course, its times and their ratios.
 fn timed(course: &Course, passes: usize) -> Result<(), String> {
     check(course)?;
-    let [[library, plain, tuned]] = measure(course, [Way::Single], passes);
+    let walks = WALKERS.map(|walker| walk(course, walker, Way::Single));
+    let [library, plain, tuned] = measure(course, walks, passes);
     let (slots, ratios) = (course.slots(), (library / plain, library / tuned));
     println!("{:>5} {:>8.1} {:>8.1} {:>8.1} {:>14.2} {:>14.2}", slots, library, plain, tuned, ratios.0, ratios.1);
     Ok(())
