@@ -76,8 +76,8 @@ pub struct Heard {
     /// Bytes that wait for the rest of their unit; after a frame in which the allowed number was reached there may be whole
     /// units among them.
     pub waiting: usize,
-    /// Whether the line drops what comes, and so has dropped this piece: a unit was refused before it, and no connect has
-    /// been accepted since. Nothing more is taken, whatever the badge is: connect anew.
+    /// Whether the line drops what comes, this piece too: a unit was refused before it, and no connect has been accepted
+    /// since. Nothing more is taken, whatever the badge is: connect anew.
     pub dropping: bool,
 }
 
@@ -117,7 +117,8 @@ impl Line {
     /// let mut header = [0; 22];
     /// header[20..].copy_from_slice(&[0x45, 2]); // a MsgSize of 581
     /// assert_eq!(line.hear(&header, 0).unwrap_err().answer(), Answer::TooLong);
-    /// assert_eq!(line.reason(0).to_string(), "lost: the holding buffer is too short (answer 22), unit 1, SeqNum 1 expected and 0 met");
+    /// let words = "lost: the holding buffer is too short (answer 22), unit 1, SeqNum 1 expected and 0 met";
+    /// assert_eq!(line.reason(0).to_string(), words);
     /// # Ok::<(), mmdh::Refused>(())
     /// ```
     pub fn with_hold(limit: u64, slots: usize, bytes: usize) -> Result<Line, Refused> {
