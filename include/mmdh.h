@@ -225,8 +225,9 @@ MmdhLinked mmdh_line_connect(MmdhLine line, const uint8_t *hold, size_t hold_len
    as it was handed in.
 
    Of the buffer only this is written: where nothing is due, what is left of the scrap, behind the held bytes; where a unit is
-   finished that some but not all of its bytes waited for, the missing ones behind these, so that it lies at the front; and where
-   held bytes made by hand have a whole unit in front and it is accepted, the held bytes behind it move to the front. */
+   finished that some but not all of its bytes waited for, the missing ones behind these, so that it lies at the front (22 bytes of
+   it with MsgSize 0 or 1); and where held bytes made by hand have a whole unit in front and it is accepted, the held bytes behind it
+   move to the front. */
 MmdhHeard mmdh_line_scrap(MmdhLine line, uint64_t *books, size_t books_len, uint64_t *strips, size_t strips_len,
                           uint8_t *hold, size_t hold_len, const uint8_t *scrap, size_t scrap_len, uint64_t allowed, uint64_t time);
 

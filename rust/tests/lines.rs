@@ -60,7 +60,7 @@ fn front(bytes: &[u8], room: usize) -> Front {
         20 | 21 => Front::Torn,
         _ if HEADER + number(HEADER) > room => Front::TooLong,
         len if len < HEADER + number(HEADER) => Front::Torn,
-        _ => Front::Finished(HEADER + number(HEADER)),
+        _ => Front::Finished(SIZED.max(HEADER + number(HEADER))),
     }
 }
 
@@ -210,8 +210,8 @@ impl Met<'_> {
             }
             Front::Finished(length) => {
                 tally.scrap(Hearing::Refused(self.lay(at, length)));
-                if bytes[..2] != [20, 0] && length < HEADER + 4 {
-                    tally.scrap(Hearing::Tiny(length - HEADER));
+                if length != HEADER && bytes[20] < 4 && bytes[21] == 0 {
+                    tally.scrap(Hearing::Tiny(usize::from(bytes[20])));
                 }
             }
             Front::Torn => {}

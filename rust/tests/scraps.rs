@@ -285,6 +285,8 @@ fn overfull(pair: &mut Pair) {
                 for (dropping, allowed) in [(0, 0), (0, 1), (0, u64::MAX), (9, 1), (9, 0)] {
                     let mut stand = Stand::new(LIVE, frames::tables(), room as usize);
                     stand.line = MmdhLine { held, dropping, ..stand.line };
+                    // with as many as there is room for, units that would be accepted
+                    stand.hold.iter_mut().zip(HEARTBEAT.iter().cycle()).for_each(|(byte, of)| *byte = *of);
                     let before = stand.clone();
                     let heard = stand.scrap(pair, scrap, allowed, TIME);
                     let (line, used) = (before.line, scrap.len() as u64);
@@ -426,7 +428,7 @@ fn wait_whole(pair: &mut Pair) {
     }
 }
 
-/// MsgSize from 0 to 3, torn at every byte: finished at 22 bytes or at its end, and 12.
+/// MsgSize from 0 to 3, torn at every byte: finished at 22 bytes or at its end, and 12; it lies in front where some of it waited.
 fn tiny(pair: &mut Pair) {
     for size in 0..=3 {
         let (unit, answer, finished) = sized(size);
@@ -442,6 +444,13 @@ fn tiny(pair: &mut Pair) {
                 pair.tally.same(&said, &wanted, || format!("size {}, {} bytes in {}", size, at, room));
                 let said = [said, stand.hear(pair, &stream[at..], 1, TIME).0].concat();
                 pair.tally.same(&said, &vec![answer], || format!("size {}, cut at {} in {}", size, at, room));
+                let front = match at {
+                    _ if due => &[][..],
+                    0 => &[],
+                    _ if too_long => &unit[..at],
+                    _ => &unit,
+                };
+                pair.tally.same(&stand.hold, &clean_behind(front, room), || format!("size {}, cut at {}", size, at));
             }
         }
     }

@@ -80,7 +80,7 @@ enum Front {
     Torn,
     /// More than the holding buffer has room for.
     TooLong,
-    /// A unit of so many bytes.
+    /// A unit of so many bytes; with MsgSize 0 or 1 those that tell it.
     Finished(usize),
 }
 
@@ -93,7 +93,7 @@ impl Front {
         match unit::cut(bytes) {
             Unit::More => Front::Torn,
             Unit::Heartbeat => Front::Finished(HEADER),
-            Unit::Message { message, .. } => Front::Finished(HEADER + message.len()),
+            Unit::Message { message, .. } => Front::Finished((HEADER + message.len()).max(SIZED)),
         }
     }
 }
