@@ -205,39 +205,41 @@ fn after_refusal(answer: u64) -> MmdhLine {
     MmdhLine { feed, held: 0, dropping: 1 }
 }
 
-/// Every short buffer, and some that are longer, with units that are shorter, as long and longer, in two scraps: 22 as soon as it
-/// is known, and nothing written then.
+/// Every short buffer, and some that are longer, with units that are shorter, as long and longer, in two scraps.
 fn buffers(pair: &mut Pair) {
     for room in (0..=60).chain([61, 63, 64, 65, 79, 80, 81, 100, 600]) {
         for size in [2, 3, 4, 5, 8, 12, 20, 36, 40, 41, 60] {
-            let (unit, answer, finished) = sized(size);
-            for at in (0..=unit.len()).filter(|&at| at < 3 || (19..25).contains(&at) || at + 2 > unit.len()) {
-                let mut stand = Stand::new(LIVE, frames::tables(), room);
-                let mut known = 0;
-                for piece in [&unit[..at], &unit[at..]] {
-                    let before = stand.hold.clone();
-                    let heard = stand.scrap(pair, piece, 1, TIME);
-                    known += piece.len();
-                    let too_long = room < SIZED || (known >= SIZED && 20 + size > room);
-                    let said = match () {
-                        () if too_long => Some(22),
-                        () if known >= finished => Some(answer),
-                        () => None,
-                    };
-                    let got = (heard.said, heard.answer, heard.used);
-                    let wanted = (u64::from(said.is_some()), said.unwrap_or(0), piece.len() as u64);
-                    pair.tally.same(&got, &wanted, || format!("buffer of {}, size {}, cut at {}", room, size, at));
-                    if too_long {
-                        pair.tally.same(&stand.hold, &before, || format!("buffer of {}, size {}", room, size));
-                    }
-                    if wanted.1 > 2 {
-                        pair.tally.same(&stand.line, &after_refusal(wanted.1), || format!("refused with {:?}", said));
-                    }
-                    if said.is_some() {
-                        break;
-                    }
-                }
+            let length = sized(size).0.len();
+            for at in (0..=length).filter(|&at| at < 3 || (19..25).contains(&at) || at + 2 > length) {
+                in_two(pair, room, size, at);
             }
+        }
+    }
+}
+
+/// A unit in two scraps: 22 as soon as it is known, and nothing written then.
+fn in_two(pair: &mut Pair, room: usize, size: usize, at: usize) {
+    let (unit, answer, finished) = sized(size);
+    let mut stand = Stand::new(LIVE, frames::tables(), room);
+    let mut known = 0;
+    let input = || format!("buffer of {}, size {}, cut at {}", room, size, at);
+    for piece in [&unit[..at], &unit[at..]] {
+        let before = stand.hold.clone();
+        let heard = stand.scrap(pair, piece, 1, TIME);
+        known += piece.len();
+        let too_long = room < SIZED || (known >= SIZED && 20 + size > room);
+        let said = if too_long { Some(22) } else { Some(answer).filter(|_| known >= finished) };
+        let got = (heard.said, heard.answer, heard.used);
+        let wanted = (u64::from(said.is_some()), said.unwrap_or(0), piece.len() as u64);
+        pair.tally.same(&got, &wanted, input);
+        if too_long {
+            pair.tally.same(&stand.hold, &before, input);
+        }
+        if wanted.1 > 2 {
+            pair.tally.same(&stand.line, &after_refusal(wanted.1), input);
+        }
+        if said.is_some() {
+            return;
         }
     }
 }
@@ -245,32 +247,31 @@ fn buffers(pair: &mut Pair) {
 /// The last byte of MsgSize tells that a unit has no room, wherever it comes: in one scrap, torn, behind other units, and with all
 /// of it there.
 fn too_long_in_time(pair: &mut Pair) {
-    let before = unit(7, 41, &nominal(700, 9_740));
     for room in [40, 255, 256, 300, 65_554, 65_555] {
-        for over in 0..=1 {
-            let size = room - 20 + over;
-            if size > 65_535 {
-                continue;
-            }
-            let long = unit(8, 42, &message(60, size));
-            let stream = [&before[..], &long].concat();
-            for at in [0, 20, 32, 33, 51, 52, 53, 54, 60, stream.len() - 1, stream.len()] {
-                let at = at.min(stream.len());
-                let mut stand = Stand::new(LIVE, frames::tables(), room);
-                let (mut said, _) = stand.hear(pair, &stream[..at], 1, TIME);
-                let known = at >= 32 + SIZED;
-                let wanted = match (over, at) {
-                    (1, _) if known => vec![0, 22],
-                    (0, _) if at == stream.len() => vec![0, 2],
-                    _ => vec![0; usize::from(at >= 32)],
-                };
-                pair.tally.same(&said, &wanted, || format!("{} bytes of room, size {}, cut at {}", room, size, at));
-                said.extend(stand.hear(pair, &stream[at..], 1, TIME).0);
-                let wanted = vec![0, if over == 1 { 22 } else { 2 }];
-                pair.tally.same(&said, &wanted, || format!("{} bytes of room, size {}", room, size));
+        for size in [room - 20, room - 19].into_iter().filter(|&size| size <= 65_535) {
+            let length = 52 + size;
+            for at in [0, 20, 32, 33, 51, 52, 53, 54, 60, length - 1, length] {
+                behind_another(pair, room, size, at.min(length));
             }
         }
     }
+}
+
+/// A unit that is taken, and one behind it that may have no room, in two scraps.
+fn behind_another(pair: &mut Pair, room: usize, size: usize, at: usize) {
+    let stream = [unit(7, 41, &nominal(700, 9_740)), unit(8, 42, &message(60, size))].concat();
+    let mut stand = Stand::new(LIVE, frames::tables(), room);
+    let (mut said, _) = stand.hear(pair, &stream[..at], 1, TIME);
+    let last = if 20 + size > room { 22 } else { 2 };
+    let known = if last == 22 { 32 + SIZED } else { stream.len() };
+    let wanted = match at {
+        _ if at >= known => vec![0, last],
+        _ => vec![0; usize::from(at >= 32)],
+    };
+    let input = || format!("{} bytes of room, size {}, cut at {}", room, size, at);
+    pair.tally.same(&said, &wanted, input);
+    said.extend(stand.hear(pair, &stream[at..], 1, TIME).0);
+    pair.tally.same(&said, &vec![0, last], input);
 }
 
 /// More waits than there is room for, and a buffer too short for a header: 22 is due, whatever comes.
@@ -278,30 +279,35 @@ fn overfull(pair: &mut Pair) {
     let unit = unit(7, 41, &nominal(700, 9_740));
     for room in [0u64, 1, 20, 21, 22, 23, 64] {
         for held in [0, 1, room, room + 1, room + 2, 1 << 32, u64::MAX] {
-            if held <= room && room >= 22 {
-                continue;
-            }
-            for scrap in [&[][..], &[20], &HEARTBEAT, &unit] {
-                for (dropping, allowed) in [(0, 0), (0, 1), (0, u64::MAX), (9, 1), (9, 0)] {
-                    let mut stand = Stand::new(LIVE, frames::tables(), room as usize);
-                    stand.line = MmdhLine { held, dropping, ..stand.line };
-                    // with as many as there is room for, units that would be accepted
-                    stand.hold.iter_mut().zip(HEARTBEAT.iter().cycle()).for_each(|(byte, of)| *byte = *of);
-                    let before = stand.clone();
-                    let heard = stand.scrap(pair, scrap, allowed, TIME);
-                    let (line, used) = (before.line, scrap.len() as u64);
-                    let wanted = match (dropping, allowed) {
-                        (_, 0) => MmdhHeard { line, ..MmdhHeard::default() },
-                        (0, _) => MmdhHeard { said: 1, answer: 22, accepted: 0, used, line: after_refusal(22) },
-                        _ => MmdhHeard { used, line, ..MmdhHeard::default() },
-                    };
-                    pair.tally.same(&heard, &wanted, || format!("{} wait in {}, {} allowed", held, room, allowed));
-                    let same = (&stand.tables, &stand.hold) == (&before.tables, &before.hold);
-                    pair.tally.holds(same, || format!("{} wait in {}: something was written", held, room));
+            for (dropping, allowed) in [(0, 0), (0, 1), (0, u64::MAX), (9, 1), (9, 0)] {
+                if held <= room && room >= 22 {
+                    continue;
                 }
+                let line = MmdhLine { feed: LIVE, held, dropping };
+                [&[][..], &[20], &HEARTBEAT, &unit].iter().for_each(|scrap| too_much(pair, line, room, scrap, allowed));
             }
         }
     }
+}
+
+/// One scrap of a line in which 22 is due before anything has come.
+fn too_much(pair: &mut Pair, line: MmdhLine, room: u64, scrap: &[u8], allowed: u64) {
+    let mut stand = Stand::new(LIVE, frames::tables(), room as usize);
+    stand.line = line;
+    // with as many as there is room for, units that would be accepted
+    stand.hold.iter_mut().zip(HEARTBEAT.iter().cycle()).for_each(|(byte, of)| *byte = *of);
+    let before = stand.clone();
+    let heard = stand.scrap(pair, scrap, allowed, TIME);
+    let used = scrap.len() as u64;
+    let wanted = match (line.dropping, allowed) {
+        (_, 0) => MmdhHeard { line, ..MmdhHeard::default() },
+        (0, _) => MmdhHeard { said: 1, answer: 22, accepted: 0, used, line: after_refusal(22) },
+        _ => MmdhHeard { used, line, ..MmdhHeard::default() },
+    };
+    let input = || format!("{} wait in {}, {} allowed", line.held, room, allowed);
+    pair.tally.same(&heard, &wanted, input);
+    let same = (&stand.tables, &stand.hold) == (&before.tables, &before.hold);
+    pair.tally.holds(same, || format!("{}: something was written", input()));
 }
 
 /// A feed as it comes back from a call that does something.
@@ -310,8 +316,7 @@ pub fn plainly(feed: MmdhFeed) -> MmdhFeed {
     MmdhFeed { phase, whole: feed.whole.min(1), fresh: feed.fresh.min(1), ..feed }
 }
 
-/// Every phase with odd numbers, before the last heard time and after it: 10 and 11 only where a unit is finished or 22 is due,
-/// and nothing at all where none is allowed or all is dropped.
+/// Every phase with odd numbers, before the last heard time and after it.
 fn phases(pair: &mut Pair) {
     let unit = unit(7, 41, &nominal(700, 9_740));
     let long = frames::units()[5].1.clone();
@@ -319,37 +324,37 @@ fn phases(pair: &mut Pair) {
     let scraps = [(&[][..], false), (&unit[..31], false), (&unit, true), (&HEARTBEAT, true), (&long[..22], true)];
     for phase in PHASES {
         for (whole, fresh, dropping) in [(0, 0, 0), (1, 1, 0), (2, u64::MAX, 0), (7, 256, 1), (0, 2, u64::MAX)] {
-            let feed = MmdhFeed { phase, whole, fresh, ..LIVE };
-            let open = (1..=4).contains(&phase);
+            let line = MmdhLine { feed: MmdhFeed { phase, whole, fresh, ..LIVE }, held: 0, dropping };
             for time in [0, LIVE.heard - 1, LIVE.heard, TIME, u64::MAX] {
                 for (scrap, due) in scraps {
-                    for allowed in [0, 1, 2, u64::MAX] {
-                        let mut stand = Stand::new(feed, frames::tables(), 40);
-                        stand.line.dropping = dropping;
-                        let handed = stand.line;
-                        let heard = stand.scrap(pair, scrap, allowed, time);
-                        let (held, used) = (if due { 0 } else { scrap.len() as u64 }, scrap.len() as u64);
-                        let quiet = MmdhHeard { line: handed, ..MmdhHeard::default() };
-                        let refused = |answer| {
-                            let line = MmdhLine { feed: plainly(feed), held: 0, dropping: 1 };
-                            MmdhHeard { said: 1, answer, accepted: 0, used, line }
-                        };
-                        let waits = MmdhLine { feed: plainly(feed), held, dropping: 0 };
-                        let wanted = match allowed {
-                            0 => quiet,
-                            _ if dropping != 0 => MmdhHeard { used, ..quiet },
-                            _ if !due => MmdhHeard { used, line: waits, ..quiet },
-                            _ if time < LIVE.heard => refused(10),
-                            _ if !open => refused(11),
-                            _ => heard,
-                        };
-                        let input = || format!("{:?} at {}, {} allowed, {:02x?}", handed, time, allowed, scrap);
-                        pair.tally.same(&heard, &wanted, input);
-                    }
+                    [0, 1, 2, u64::MAX].iter().for_each(|&allowed| in_phase(pair, line, (scrap, due), allowed, time));
                 }
             }
         }
     }
+}
+
+/// 10 and 11 only where a unit is finished or 22 is due, and nothing at all where none is allowed or all is dropped.
+fn in_phase(pair: &mut Pair, handed: MmdhLine, (scrap, due): (&[u8], bool), allowed: u64, time: u64) {
+    let mut stand = Stand::new(LIVE, frames::tables(), 40);
+    stand.line = handed;
+    let heard = stand.scrap(pair, scrap, allowed, time);
+    let (feed, used) = (plainly(handed.feed), scrap.len() as u64);
+    let quiet = MmdhHeard { line: handed, ..MmdhHeard::default() };
+    let refused = |answer| {
+        let line = MmdhLine { feed, held: 0, dropping: 1 };
+        MmdhHeard { said: 1, answer, accepted: 0, used, line }
+    };
+    let wanted = match allowed {
+        0 => quiet,
+        _ if handed.dropping != 0 => MmdhHeard { used, ..quiet },
+        _ if !due => MmdhHeard { used, line: MmdhLine { feed, held: used, dropping: 0 }, ..quiet },
+        _ if time < feed.heard => refused(10),
+        _ if !(1..=4).contains(&feed.phase) => refused(11),
+        _ => heard,
+    };
+    let input = || format!("{:?} at {}, {} allowed, {:02x?}", handed, time, allowed, scrap);
+    pair.tally.same(&heard, &wanted, input);
 }
 
 /// Every refusal at every place, torn at every byte: what stands before it stays, the refused unit lies at the buffer's front where
@@ -494,34 +499,39 @@ fn closed(pair: &mut Pair) {
     }
 }
 
-/// Connects: 10, then 20, then 22, and then all as it was handed in; or nothing waits and nothing is dropped.
+/// Fresh and resuming ones, at a time before the last heard one, at it and after it.
+const CONNECTS: [(u64, u64); 6] = [(0, 4_999), (0, 5_000), (0, u64::MAX), (1, 4_999), (1, 5_000), (u64::MAX, u64::MAX)];
+
+/// Connects in every phase, with odd numbers and with buffers of all lengths.
 fn connects(pair: &mut Pair) {
     for phase in PHASES {
         for (whole, internal, fresh) in [(0, 0, 0), (1, 0, 1), (1, 40, 7), (0, 40, 1), (9, 1, 2)] {
             for (held, dropping) in [(0, 0), (5, 0), (0, 1), (u64::MAX, u64::MAX)] {
                 let feed = MmdhFeed { phase, whole, internal, fresh, ..LIVE };
                 let line = MmdhLine { feed, held, dropping };
-                for resuming in [0, 1, u64::MAX] {
-                    for time in [LIVE.heard - 1, LIVE.heard, u64::MAX] {
-                        for room in [0, 1, 20, 21, 22, 23, 600] {
-                            let answer = match room {
-                                _ if time < LIVE.heard => 10,
-                                _ if resuming != 0 && (whole == 0 || internal == 0) => 20,
-                                0..=21 => 22,
-                                _ => 0,
-                            };
-                            let fresh = u64::from(resuming == 0);
-                            let feed = MmdhFeed { phase: 1, next: 1, heard: time, fresh, ..plainly(feed) };
-                            let connected = MmdhLine { feed, held: 0, dropping: 0 };
-                            let wanted = MmdhLinked { answer, line: if answer == 0 { connected } else { line } };
-                            let linked = pair.line_connect(line, &vec![CLEAN; room], resuming, time);
-                            pair.tally.same(&linked, &wanted, || format!("{:?}, buffer of {}", line, room));
-                        }
-                    }
+                for (resuming, time) in CONNECTS {
+                    [0, 1, 20, 21, 22, 23, 600].iter().for_each(|&room| connect(pair, line, room, resuming, time));
                 }
             }
         }
     }
+}
+
+/// 10, then 20, then 22, and then all as it was handed in; or nothing waits and nothing is dropped.
+fn connect(pair: &mut Pair, line: MmdhLine, room: usize, resuming: u64, time: u64) {
+    let feed = line.feed;
+    let answer = match room {
+        _ if time < feed.heard => 10,
+        _ if resuming != 0 && (feed.whole == 0 || feed.internal == 0) => 20,
+        0..=21 => 22,
+        _ => 0,
+    };
+    let fresh = u64::from(resuming == 0);
+    let feed = MmdhFeed { phase: 1, next: 1, heard: time, fresh, ..plainly(feed) };
+    let connected = MmdhLine { feed, held: 0, dropping: 0 };
+    let wanted = MmdhLinked { answer, line: if answer == 0 { connected } else { line } };
+    let linked = pair.line_connect(line, &vec![CLEAN; room], resuming, time);
+    pair.tally.same(&linked, &wanted, || format!("{:?}, buffer of {}", line, room));
 }
 
 /// After 22 all that has come is whole: the line resumes and takes what it missed. A refused connect leaves it dropping.
