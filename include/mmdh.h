@@ -3,8 +3,9 @@
  * to be.
  *
  * The answers are the numbers of document 01, and 22 of document 02; MMDH_* below names them. Every call is total: any
- * feed, any tables, any bytes and any time is answered, and nothing is kept between calls. Link with libscreen.a, and compare mmdh_version()
- * with MMDH_VERSION once at the start: the linker does not notice an archive whose calls have other shapes.
+ * feed, any tables, any bytes and any time is answered, and nothing is kept between calls. Link with libscreen.a, and
+ * compare mmdh_version() with MMDH_VERSION once at the start: the linker does not notice an archive whose calls have other
+ * shapes.
  *
  * Two tables are lent: the books, 64 words each, and the strips, 12 words each, at most 4,096 of either; words behind the
  * last whole one are never read or written. Each table has its own order of slots. Start with all words zero, lend the

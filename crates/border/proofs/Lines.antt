@@ -6,35 +6,33 @@ use mathlib.Core.Path.{_≡_, refl, sym, ap, _∙_}
 use mathlib.Core.Bool.{Bool, true, false, cond, _&&_, true≢false}
 use mathlib.Core.List.{List, [], _∷_, _++_, append-nil}
 use lib.ListN.{length, take, drop}
-use lib.Dec.{T, ltb, eqb}
+use lib.Dec.{ltb, eqb}
 use borrow.Author.Tests.{ne-eqb}
-use Rattle.ground.specs.Choice.{oneOf, first}
+use Rattle.ground.specs.Choice.{first}
 use Rattle.ground.proofs.Bools.{cond-same}
 use Rattle.ground.proofs.Choices.{each-has}
 use Rattle.feed.specs.Feeds.{plainBadge}
-use Rattle.feed.specs.Events.{Tables, State, Event, Connect}
+use Rattle.feed.specs.Events.{Tables, Event, Connect}
 use Rattle.feed.specs.Steps.{accepted, stateOf, outcome}
-use Rattle.feed.specs.declared.Feed.{Feed}
 use Rattle.feed.specs.declared.Given.{Given}
 use Rattle.feed.specs.declared.Link.{Link}
 use Rattle.feed.proofs.Laws.{plain-badge}
-use Rattle.lines.specs.Scraps.{Hearing, hearing, silent, once, onward, goesOn, through, hears, links}
+use Rattle.lines.specs.Scraps.{Hearing, once, onward, goesOn, through, hears, links}
 use Rattle.lines.specs.declared.Line.{Line}
 use Rattle.lines.specs.declared.Linked.{Linked}
-use Rattle.lines.proofs.Cases.{cond-yes, cond-no}
-use Rattle.promises.specs.Runs.{start, trace}
+use Rattle.lines.proofs.Cases.{cond-no}
+use Rattle.promises.specs.Runs.{trace}
 use Rattle.promises.specs.Frames.{answersIn}
-use Rattle.promises.specs.Scraps.{Lined, lined, stateOn, linedIn, opens, scrapped, scrapSaid, Seen, seen, enough, scraps, onePiece, linked, Links, Hears, afterLine, runLine, newLine, endLine}
+use Rattle.promises.specs.Scraps.{Lined, lined, stateOn, linedIn, opens, scrapped, scrapSaid, Seen, seen, enough, scraps, onePiece, linked, afterLine, runLine, newLine, endLine}
 use Rattle.promises.proofs.Scraps.{walk, first-turn, scrapDropped}
 use Rattle.promises.proofs.Cuts.{anyScraps, no-events}
 use Rattle.promises.proofs.Lines as P
-use Rattle.screen.specs.Plain.{yes, bit, linkOf, feedOf, plainFeed, lineOf, plainLine, plainHeard, PlainHearing, plainHearing, plainHears}
+use Rattle.screen.specs.Plain.{yes, bit, linkOf, feedOf, plainFeed, lineOf, plainLine, PlainHearing, plainHearing, plainHears}
 use Rattle.screen.specs.Calls.{linkedBack, linksBack, plainSilent, hearsBack}
-use Rattle.screen.specs.declared.MmdhFeed.{MmdhFeed}
 use Rattle.screen.specs.declared.MmdhLine.{MmdhLine}
 use Rattle.screen.specs.declared.MmdhLinked.{MmdhLinked}
 use Rattle.border.specs.Lines as C
-use Rattle.border.specs.Lines.{plainOnward, plainThrough, PlainSeen, plainEnough, plainScraps, HeldLine, PlainLineAct, LinksBy, HearsBy, plainAfterLine, plainRunLine, lineActOf, lineActsOf, plainNewLine}
+use Rattle.border.specs.Lines.{plainOnward, plainThrough, PlainSeen, plainEnough, plainScraps, HeldLine, PlainLineAct, LinksBy, HearsBy, plainAfterLine, plainRunLine, lineActOf, lineActsOf}
 use Rattle.border.proofs.Border.{bit-back, comesBack}
 
 pub lineComesBack : C.LineComesBack

@@ -16,7 +16,6 @@ use Rattle.screen.specs.Plain.{yes, linkOf, feedOf, plainGiven, lineOf, plainLi
 use Rattle.screen.specs.Calls.{linksBack, plainSilent, hearsBack}
 use Rattle.screen.specs.declared.MmdhFeed.{MmdhFeed}
 use Rattle.screen.specs.declared.MmdhLine.{MmdhLine}
-use Rattle.screen.specs.declared.MmdhHeard.{MmdhHeard}
 
 -- a line's numbers come back
 abbrev pub LineComesBack : Type 0

@@ -1,23 +1,21 @@
 -- What each place of the code asks, from what its tests and calls told. Assumes nothing.
-use Prim.Native.Nat.{ℕ, zero, suc, _+_, _-_, _≤_, _<_, _^_}
+use Prim.Native.Nat.{ℕ, _+_, _-_, _≤_, _<_}
 use native.Mathlib.Omega.{arith}
-use mathlib.Core.Path.{_≡_, refl, sym, ap, _∙_}
-use mathlib.Core.Bool.{Bool, true, false, cond, not, _&&_}
+use mathlib.Core.Path.{_≡_, sym, ap, _∙_}
+use mathlib.Core.Bool.{Bool, true, false, cond, _&&_}
 use mathlib.Core.List.{List}
-use lib.ListN.{length, take, drop}
+use lib.ListN.{length, take}
 use lib.Seq.{paste, length-take-le}
 use lib.Dec.{ltb, leb}
-use mir.Syntax.{w64}
-use mir.Val.{Fits}
 use borrow.Author.Needs.{needs}
 use borrow.Author.Tests.{le-leb, lt-leb, lt-ltb, le-ltb}
 use Rattle.ground.specs.Choice.{first}
 use Rattle.feed.specs.Events.{Tables, Connect, Arrive, Overrun}
-use Rattle.feed.specs.Steps.{Outcome, accepted, stateOf, outOf, outcome}
+use Rattle.feed.specs.Steps.{accepted, stateOf, outOf, outcome}
 use Rattle.feed.specs.declared.Given.{Given}
 use Rattle.feed.specs.declared.Link.{Link}
 use Rattle.lines.specs.Looks.{look}
-use Rattle.lines.specs.Scraps.{Kept, kept, Hearing, hearing, behind, laid, silent, waits, refused, taken, gathered, movedUp, settled, withTables, looked, once, goesOn, links}
+use Rattle.lines.specs.Scraps.{Kept, kept, Hearing, hearing, behind, silent, waits, refused, gathered, movedUp, settled, withTables, looked, once, goesOn, links}
 use Rattle.lines.specs.declared.Look.{Look}
 use Rattle.lines.specs.declared.Look.the-variants.{Waits, TooLong, Finished}
 use Rattle.lines.specs.declared.Line.{Line}

@@ -1,18 +1,18 @@
 -- A scrap goes unit by unit. Assumes nothing.
-use Prim.Native.Nat.{ℕ, zero, suc, _+_, _-_, _≤_, _<_, _^_, zero-le}
+use Prim.Native.Nat.{ℕ, suc, _+_, _-_, _≤_, _<_, _^_}
 use native.Mathlib.Omega.{arith}
 use native.Mathlib.Nat.{le-refl}
 use mathlib.Core.Path.{_≡_, refl, sym, ap, _∙_}
-use mathlib.Core.Bool.{Bool, true, false, cond, _&&_}
-use mathlib.Core.List.{List, _++_}
+use mathlib.Core.Bool.{Bool, true, false, cond}
+use mathlib.Core.List.{List}
 use lib.ListN.{length, take, drop, length-drop, length-append, length-take}
 use lib.Seq.{take-all}
 use mir.Syntax.{w64}
 use mir.Val.{Fits}
 use borrow.Author.Needs.{needs}
 use Rattle.ground.proofs.Bools.{split}
-use Rattle.feed.specs.Events.{Tables, Arrive, Overrun}
-use Rattle.feed.specs.Steps.{Outcome, accepted, lent, stateOf, outcome}
+use Rattle.feed.specs.Events.{Tables, Arrive}
+use Rattle.feed.specs.Steps.{accepted, lent, stateOf, outcome}
 use Rattle.feed.specs.declared.Given.{Given}
 use Rattle.feed.proofs.Following.{overrun-not}
 use Rattle.lines.specs.Looks.{look}

@@ -5,6 +5,9 @@ mod scraps;
 
 use feed::Feed;
 
+// The least that a holding buffer is for: a header and MsgSize.
+const LEAST_HOLD: usize = wire::HEADER_BYTES + 2;
+
 // What has come asks for: more bytes; an answer of 22; a finished unit of so many bytes to go through the feed.
 pub enum Look {
     Waits,

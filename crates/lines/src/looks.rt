@@ -1,4 +1,5 @@
 // What the bytes that wait and a scrap behind them ask for. They are read where they lie.
+use super::LEAST_HOLD;
 use super::Look;
 ghost use mathlib.Core.Path.{_≡_};
 ghost use Prim.Native.Nat.{_+_, _≤_, _<_};
@@ -7,8 +8,6 @@ ghost use lib.ListN.{length, getD};
 ghost use Rattle.wire.specs.Number.{field};
 ghost use Rattle.lines.specs.Looks.{look};
 ghost use Rattle.lines.specs.Scraps.{behind};
-
-const LEAST_HOLD: usize = wire::HEADER_BYTES + 2;
 
 // Whether bytes that wait and a scrap's are fewer than n.
 fn lacks(held: usize, left: usize, n: usize) -> bool

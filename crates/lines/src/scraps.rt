@@ -1,5 +1,6 @@
 // A line's connect, and its scraps.
 use super::Heard;
+use super::LEAST_HOLD;
 use super::Line;
 use super::Linked;
 use super::Look;
@@ -15,8 +16,6 @@ ghost use lib.ListN.{length};
 ghost use Rattle.feed.specs.Steps.{lent};
 ghost use Rattle.lines.specs.Scraps.{kept, hearing, silent as silentOf, waits as waitsOf, refused as refusedOf, settled, looked, once as onceOf, onward as onwardOf, goesOn};
 ghost use Rattle.lines.specs.Contracts.{ConnectSays, ScrapSays};
-
-const LEAST_HOLD: usize = wire::HEADER_BYTES + 2;
 
 // a - b, and 0 where b is more.
 fn less(a: usize, b: usize) -> usize

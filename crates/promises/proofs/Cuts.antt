@@ -7,9 +7,9 @@ use mathlib.Core.List.{List, [], _∷_, _++_, append-assoc, append-nil}
 use lib.ListN.{length, take, drop, length-append, length-take, length-drop}
 use lib.Seq.{take-at, drop-drop, drop-length, length-take-le, drop-append-le, drop-append-add}
 use lib.Dec.{ltb}
-use borrow.Author.Tests.{le-ltb, lt-ltb, ltb-true, ltb-false}
+use borrow.Author.Tests.{le-ltb, ltb-true, ltb-false}
 use Rattle.feed.specs.Events.{State, Event, Arrive, Overrun}
-use Rattle.feed.specs.Steps.{accepted, stateOf, outcome}
+use Rattle.feed.specs.Steps.{accepted, outcome}
 use Rattle.feed.specs.declared.Given.{Given}
 use Rattle.feed.proofs.Following.{overrun-not}
 use Rattle.ground.proofs.Bools.{cond-same, split}
@@ -18,16 +18,15 @@ use Rattle.lines.specs.Looks.{look, exceeds, finished, isSized, fullLength}
 use Rattle.lines.specs.Scraps.{Kept, Hearing, hearing, behind, laid, gathered, movedUp, settled, looked, once, onward, goesOn, through}
 use Rattle.lines.specs.declared.Look.{Look}
 use Rattle.lines.specs.declared.Look.the-variants.{Waits, TooLong, Finished}
-use Rattle.lines.specs.declared.Line.{Line}
 use Rattle.lines.specs.declared.Heard.{Heard}
 use Rattle.lines.proofs.Cases.{cond-yes, cond-no}
-use Rattle.lines.proofs.Copies.{behind-length, gathered-long, gather-none, gather-whole, moved-none}
+use Rattle.lines.proofs.Copies.{behind-length, gathered-long, gather-whole}
 use Rattle.lines.proofs.Fronts.{look-waits, look-finished}
 use Rattle.lines.proofs.Courses.{onward-counts, through-on, through-ends}
 use Rattle.promises.specs.Runs.{after, answerOf, trace}
 use Rattle.promises.specs.Scraps as S
 use Rattle.promises.specs.Scraps.{Lined, stateOn, linedIn, opens, scrapped, units, scrapEvents, scrapSaid, Seen, seen, enough, scraps, onePiece}
-use Rattle.promises.proofs.Scraps.{On, Off, at, metAt, walk, turnAt, TurnAt, silently, with-event, once-is, meets-is, dropped, quiet-off, spoke-goes, spoke-state, spoke-taken, units-quiet, units-on, units-off, scrapEnds, scrapDropped, scrapStops, QuietAt, SpokeAt, waits, long, fed}
+use Rattle.promises.proofs.Scraps.{On, Off, at, metAt, walk, once-is, dropped, quiet-off, spoke-goes, spoke-state, spoke-taken, units-quiet, units-on, units-off, scrapEnds, scrapDropped, scrapStops, SpokeAt, waits, long, fed}
 use Rattle.promises.proofs.Flows.{eventOf, sizeOf, isWaits, told, joined, answered, rests, pump, pump-rest, pump-go, pump-same, settles, size, later, later-on, later-off, cut, joined-size, any-size, joined-twice, dropped-rests}
 
 -- a buffer that is shorter than what waits is as good as none

@@ -6,7 +6,7 @@ use mathlib.Core.Bool.{Bool, true, false, cond, not, _&&_, true≢false}
 use mathlib.Core.List.{List, [], _∷_, _++_}
 use lib.ListN.{length, take, drop}
 use lib.Dec.{T, ltb, leb, eqb}
-use borrow.Author.Tests.{leb-true, eqb-true, ne-eqb}
+use borrow.Author.Tests.{leb-true, ne-eqb}
 use Rattle.ground.specs.Choice.{oneOf, all, first}
 use Rattle.ground.proofs.Bools.{two, pair, both, of-T, is-T, split}
 use Rattle.ground.proofs.Choices.{each-has}
@@ -14,9 +14,9 @@ use Rattle.wire.specs.Number.{bytesOnly}
 use Rattle.ladder.proofs.Keeps.{bytes-drop}
 use Rattle.ladder.proofs.Orders.{all-append, all-take, all-drop}
 use Rattle.feed.specs.Feeds.{badge, badgeNo, badgeOf, listedLimit, colour}
-use Rattle.feed.specs.Events.{Tables, State, Event, Connect, Arrive, Overrun, News, news, timeOf}
+use Rattle.feed.specs.Events.{Tables, State, Event, Connect, Arrive, News, news, timeOf}
 use Rattle.feed.specs.Answers.{reply}
-use Rattle.feed.specs.Steps.{Outcome, accepted, stateOf, act, taken, handed, outcome}
+use Rattle.feed.specs.Steps.{accepted, stateOf, act, taken, handed, outcome}
 use Rattle.feed.specs.declared.Feed.{Feed}
 use Rattle.feed.specs.declared.Badge.the-variants.{Stale}
 use Rattle.feed.specs.declared.Answer.{Answer}
@@ -24,23 +24,22 @@ use Rattle.feed.specs.declared.Answer.the-variants.{Keep, Lose, Spoil, Skip, Ta
 use Rattle.feed.specs.declared.Given.{Given}
 use Rattle.feed.specs.declared.Link.{Link}
 use Rattle.lines.specs.Looks.{look}
-use Rattle.lines.specs.Scraps.{Kept, Hearing, hearing, behind, laid, gathered, settled, looked, once, silent, goesOn, onward, through, links}
+use Rattle.lines.specs.Scraps.{Kept, Hearing, behind, laid, gathered, settled, looked, once, goesOn, onward, through, links}
 use Rattle.lines.specs.declared.Look.{Look}
 use Rattle.lines.specs.declared.Look.the-variants.{Waits, TooLong, Finished}
 use Rattle.lines.specs.declared.Line.{Line}
 use Rattle.lines.specs.declared.Linked.{Linked}
-use Rattle.lines.proofs.Cases.{cond-yes, cond-no}
-use Rattle.promises.specs.Refusals.{answersTo, ending, refusal, feedRefused}
-use Rattle.promises.specs.Runs.{zeroed, start, after, run, answerOf, trace, endOf, tale, isGreen, green, replay}
+use Rattle.promises.specs.Refusals.{answersTo, ending, feedRefused}
+use Rattle.promises.specs.Runs.{zeroed, start, after, run, trace, endOf, tale, isGreen, green, replay}
 use Rattle.promises.specs.Ledger.{upTo, lastOf}
 use Rattle.promises.specs.Frames.{answersIn}
 use Rattle.promises.specs.NoHole.{kept}
 use Rattle.promises.specs.Demands.{Bytes, handsBytes, connects}
 use Rattle.promises.specs.Scraps as S
-use Rattle.promises.specs.Scraps.{Lined, lined, stateOn, linedIn, opens, scrapped, due, meets, units, scrapEvents, linked, LineAct, Links, Hears, afterLine, runLine, lineEvents, writtenLine, newLine, lineBytes, onlyScraps}
+use Rattle.promises.specs.Scraps.{Lined, stateOn, linedIn, opens, scrapped, due, meets, units, scrapEvents, linked, LineAct, Links, Hears, afterLine, runLine, lineEvents, writtenLine, newLine, lineBytes, onlyScraps}
 use Rattle.promises.proofs.Demands as D
 use Rattle.promises.proofs.Soundness.{bytes-two}
-use Rattle.promises.proofs.Morning.{run-append, lostStaysDark}
+use Rattle.promises.proofs.Morning.{run-append}
 use Rattle.promises.proofs.NoHole.{noneLeftOut}
 use Rattle.promises.proofs.Frames.{dark-after}
 use Rattle.promises.proofs.Scraps.{scrapTells, scrapDropped}

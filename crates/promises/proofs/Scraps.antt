@@ -2,20 +2,19 @@
 use Prim.Native.Nat.{ℕ, zero, suc, _+_, _-_, _≤_, _<_}
 use native.Mathlib.Omega.{arith}
 use native.Mathlib.Nat.{add-assoc, zero-add}
-use mathlib.Core.Path.{_≡_, refl, sym, ap, _∙_, subst}
+use mathlib.Core.Path.{_≡_, refl, sym, ap, _∙_}
 use mathlib.Core.Bool.{Bool, true, false, cond, not, _&&_, true≢false}
-use mathlib.Core.List.{List, [], _∷_, _++_, append-nil}
+use mathlib.Core.List.{List, [], _∷_}
 use lib.ListN.{length, take, drop, length-drop}
 use lib.Seq.{drop-drop}
-use lib.Dec.{T, ltb, eqb}
+use lib.Dec.{T, ltb}
 use borrow.Author.Tests.{ne-eqb}
-use Rattle.ground.specs.Choice.{oneOf, all, first}
+use Rattle.ground.specs.Choice.{oneOf, first}
 use Rattle.ground.proofs.Choices.{each-has}
 use Rattle.ground.proofs.Bools.{both, split}
 use Rattle.feed.specs.Events.{Tables, State, Event, Connect, Arrive, Overrun}
-use Rattle.feed.specs.Steps.{Outcome, accepted, stateOf, outcome}
+use Rattle.feed.specs.Steps.{accepted, stateOf, outcome}
 use Rattle.feed.specs.declared.Given.{Given}
-use Rattle.feed.specs.declared.Link.{Link}
 use Rattle.feed.proofs.Following.{overrun-not, whole-answered}
 use Rattle.lines.specs.Looks.{look}
 use Rattle.lines.specs.Scraps.{Kept, Hearing, hearing, behind, silent, gathered, settled, looked, once, onward, goesOn, through, links}

@@ -1,34 +1,34 @@
 -- Scraps and single arrivals, proved: each is named as its statement in specs/Scraps, with a small letter. Assumes nothing.
-use Prim.Native.Nat.{ℕ, zero, suc, _+_, _-_, _*_, _^_, _≤_, _<_, max}
+use Prim.Native.Nat.{ℕ, zero, suc, _+_, _-_, _≤_, _<_, max}
 use native.Mathlib.Omega.{arith}
 use mathlib.Core.Path.{_≡_, refl, sym, ap, _∙_, subst}
 use mathlib.Core.Bool.{Bool, true, false, cond, not, _&&_, _||_, true≢false}
 use mathlib.Core.List.{List, [], _∷_, _++_}
-use lib.ListN.{length, take, drop, length-append, length-drop, take-append-drop}
-use lib.Seq.{drop-drop, length-take-le}
-use lib.Dec.{T, ltb, leb, eqb}
-use borrow.Author.Tests.{le-ltb, ltb-false, ltb-true}
+use lib.ListN.{length, take, drop, take-append-drop}
+use lib.Seq.{drop-drop}
+use lib.Dec.{T, ltb}
+use borrow.Author.Tests.{le-ltb, ltb-false}
 use Rattle.ground.specs.Choice.{oneOf, all, first}
-use Rattle.ground.proofs.Bools.{both, two, pair, is-T, of-T, split}
+use Rattle.ground.proofs.Bools.{two, is-T, of-T}
 use Rattle.ground.proofs.Choices.{first-skips}
 use Rattle.wire.specs.Number.{field, bytesOnly}
-use Rattle.wire.specs.Units.{headerSize, msgSize, unitOf, messageIn}
+use Rattle.wire.specs.Units.{unitOf, messageIn}
 use Rattle.wire.specs.declared.Unit.{Unit}
 use Rattle.wire.specs.declared.Unit.the-variants as unit
-use Rattle.wire.proofs.Fields.{field-below, field-drop}
+use Rattle.wire.proofs.Fields.{field-below}
 use Rattle.wire.proofs.Fronts.{message-length, unit-stays}
 use Rattle.ladder.proofs.Keeps.{bytes-drop}
 use Rattle.ladder.proofs.Orders.{all-append, all-take}
 use Rattle.feed.specs.Messages.{wrongSize}
 use Rattle.feed.specs.Feeds.{deaf}
-use Rattle.feed.specs.Events.{Tables, State, Event, Arrive, Overrun, News, Linked, More, Heartbeat, TooLong, Message, cutFrom, news, timeOf, onMessage, newsSize, offered}
+use Rattle.feed.specs.Events.{State, Event, Arrive, Overrun, More, Heartbeat, TooLong, Message, cutFrom, news, timeOf, onMessage, newsSize, offered}
 use Rattle.feed.specs.Answers.{number, arrives, lacksNeed, isTooLong, isMore, lineTests, tableTests, tests, answerTo}
 use Rattle.feed.specs.Steps.{Outcome, accepted, usedOf, act, stateOf, handed, outcome}
 use Rattle.feed.specs.Frames as frame
 use Rattle.feed.specs.Frames.{Framed, framedOf, opened}
 use Rattle.feed.specs.Code.Judging.{answered}
 use Rattle.feed.specs.declared.Answer.{Answer}
-use Rattle.feed.specs.declared.Answer.the-variants.{Keep, Lose, Spoil, Skip, Take}
+use Rattle.feed.specs.declared.Answer.the-variants.{Take}
 use Rattle.feed.proofs.Laws.{numbered}
 use Rattle.feed.proofs.Following.{pieces, keeps, overrun-not}
 use Rattle.feed.proofs.Framing as framing
@@ -36,13 +36,13 @@ use Rattle.lines.specs.Looks.{look, exceeds, isSized, fullLength, finished}
 use Rattle.lines.specs.Scraps.{Hearing, behind, onward, goesOn, through}
 use Rattle.lines.specs.declared.Look.{Look}
 use Rattle.lines.specs.declared.Look.the-variants as asks
-use Rattle.lines.proofs.Fronts.{look-finished, unit-whole}
+use Rattle.lines.proofs.Fronts.{unit-whole}
 use Rattle.lines.proofs.Courses.{onward-counts, through-on, through-ends}
 use Rattle.promises.specs.Runs.{after, answerOf}
 use Rattle.promises.specs.Frames.{stateIn}
 use Rattle.promises.specs.Scraps as S
-use Rattle.promises.specs.Scraps.{Lined, stateOn, linedIn, opens, units, scrapEvents, isOverrun}
-use Rattle.promises.proofs.Scraps.{at, metAt, SpokeAt, spoke-goes, spoke-state, spoke-taken, QuietAt, quiet-state, quiet-said, spoke-said, spoke-answer, quiet-off, units-on, units-quiet, units-off, dropped, waits, long, fed}
+use Rattle.promises.specs.Scraps.{opens, units, isOverrun}
+use Rattle.promises.proofs.Scraps.{at, SpokeAt, spoke-goes, spoke-state, spoke-taken, quiet-state, quiet-said, spoke-said, spoke-answer, quiet-off, units-on, units-quiet, units-off, dropped, waits, long, fed}
 use Rattle.promises.proofs.Cuts.{flow, told-waiting, unit-flow, onward-holds}
 
 -- bytes that are no whole unit are answered 10, 11 or 3, and change nothing

@@ -23,7 +23,7 @@ use Rattle.lines.specs.Scraps.{Hearing, hearing, behind, silent, onward, goesOn
 use Rattle.lines.specs.declared.Look.{Look}
 use Rattle.lines.specs.declared.Look.the-variants.{Waits, TooLong, Finished}
 use Rattle.lines.specs.declared.Line.{Line}
-use Rattle.promises.specs.Refusals.{ending, feedRefused}
+use Rattle.promises.specs.Refusals.{ending}
 use Rattle.promises.specs.Runs.{Sizes, zeroed, start, run, trace, endOf, tale, isGreen, green, replay}
 use Rattle.promises.specs.Ledger.{upTo, lastOf}
 use Rattle.promises.specs.NoHole.{kept}

@@ -21,7 +21,7 @@ use Rattle.lines.specs.declared.Line.{Line}
 use Rattle.lines.specs.declared.Linked.{Linked}
 use Rattle.lines.specs.declared.Heard.{Heard}
 use Rattle.screen.specs.Plain.{yes, bit, linkOf, feedOf, plainFeed, plainGiven, plainOut, plainOutcome, plainFrame, plainFramedOf, plainFramed, lineOf, plainLine, plainHeard, plainHearing, plainHears, plainRow, plainSide, plainStrip}
-use Rattle.screen.specs.Calls.{handsBack, framesBack, Connects, linksBack, linkedBack, plainSilent, hearsBack}
+use Rattle.screen.specs.Calls.{handsBack, framesBack, Connects, linksBack, linkedBack, hearsBack}
 use Rattle.books.specs.declared.RowRead.{RowRead}
 use Rattle.books.specs.declared.SideRead.{SideRead}
 use Rattle.strips.specs.declared.StripRead.{StripRead}
