@@ -9,7 +9,7 @@ use lib.Seq.{length-take-le}
 use borrow.Author.Needs.{needs}
 use Rattle.ground.specs.Choice as choice
 use Rattle.feed.specs.Events.{timeOf, news}
-use Rattle.feed.specs.Answers.{arrives, lacksNeed, isMore, lineTests, tableTests, tests}
+use Rattle.feed.specs.Answers.{arrives, lacksNeed, isMore, isTooLong, lineTests, tableTests, tests}
 use Rattle.feed.specs.Events.{Tables, State, onMessage}
 use Rattle.feed.specs.Steps.{lent, stateOf, act, taken}
 use Rattle.feed.specs.Program.{Stand, connection, programRun, tableWords, stripWords}
@@ -22,7 +22,7 @@ use Rattle.mmdh.proofs.Follows.{refused-stays}
 
 -- a connect leaves the zeroed tables as they are
 connection-is : stateOf (connection .feed) (lent (replicate tableWords 0) (replicate stripWords 0)) ≡ connection
-unfolding timeOf news tests lineTests tableTests choice.first arrives lacksNeed isMore onMessage act taken
+unfolding timeOf news tests lineTests tableTests choice.first arrives lacksNeed isMore isTooLong onMessage act taken
 connection-is = refl
 
 abbrev begin : Stand
