@@ -50,7 +50,7 @@ record Unfinished (x : State) (s : List ℕ) (t : ℕ) : Type 0 where
   pub answer : ℕ
   pub same : outcome x (Arrive s t) ≡ keeps answer x
   pub refused : accepted answer ≡ false
-  pub among : T (oneOf answer (3 ∷ 10 ∷ 11 ∷ 0 ∷ []))
+  pub among : T (oneOf answer (3 ∷ 10 ∷ 11 ∷ []))
 
 unfinished : (x : State) (s : List ℕ) (t : ℕ) → unitOf s ≡ unit.More → Unfinished x s t
 unfolding outcome handed timeOf news usedOf number act tests lineTests tableTests first arrives lacksNeed isTooLong isMore cutFrom oneOf
@@ -144,12 +144,12 @@ module _ (B s : List ℕ) (t : ℕ) where
     pub counted : f .frame .accepted ≡ y .heard .accepted
     pub left : drop (f .frame .used) B ≡ bytes y
 
-  abbrev Final : Hearing → Framed → Type 0
-  Final z g =
+  abbrev Final : ℕ → Hearing → Framed → Type 0
+  Final k z g =
       (stateIn g ≡ at s t z)
       × (g .frame .accepted ≡ z .heard .accepted)
       × (z .heard .said ≡ true → g .frame .answer ≡ z .heard .answer)
-      × (z .heard .said ≡ false → T (oneOf (g .frame .answer) (3 ∷ 10 ∷ 11 ∷ 0 ∷ [])))
+      × (z .heard .said ≡ false → (k ≡ 0 → ⊥) → T (oneOf (g .frame .answer) (3 ∷ 10 ∷ 11 ∷ [])))
 
   abbrev asksOf : Hearing → Look
   asksOf y = look (length (y .hold)) (y .heard .line .held) (bytes y)
@@ -184,9 +184,9 @@ module _ (B s : List ℕ) (t : ℕ) where
 
     module _ (d : y .heard .line .dropping ≡ false) (k : ℕ) where
       abbrev Goal : Type 0
-      Goal = Final (through (suc k) s t y) (frame.through (suc k) B t f)
+      Goal = Final (suc k) (through (suc k) s t y) (frame.through (suc k) B t f)
 
-      ends : Final (onward s t y) next → goesOn (onward s t y .heard) ≡ false → accepted (next .frame .answer) ≡ false → Goal
+      ends : Final (suc k) (onward s t y) next → goesOn (onward s t y .heard) ≡ false → accepted (next .frame .answer) ≡ false → Goal
       ends h o a = rw (through-ends s t y k o, framing.through-ends B t f k a) h
 
       on-waits : asksOf y ≡ asks.Waits → Goal
@@ -199,7 +199,7 @@ module _ (B s : List ℕ) (t : ℕ) where
             ap stateIn a ∙ sym (quiet-state s t y q),
             ap (λ (g : Framed). g .frame .accepted) a ∙ not-counted (u .answer) (f .frame .accepted) (u .refused) ∙ r .counted ∙ sym (counted-by false (quiet-off s t y q)),
             λ h. absurd (true≢false (sym h ∙ quiet-said s t y q)),
-            λ h. subst (λ (n : ℕ). T (oneOf n (3 ∷ 10 ∷ 11 ∷ 0 ∷ []))) (sym (ap (λ (g : Framed). g .frame .answer) a)) (u .among),
+            λ h nz. subst (λ (n : ℕ). T (oneOf n (3 ∷ 10 ∷ 11 ∷ []))) (sym (ap (λ (g : Framed). g .frame .answer) a)) (u .among),
           )
           (quiet-off s t y q) w
 
@@ -223,7 +223,7 @@ module _ (B s : List ℕ) (t : ℕ) where
               ap stateIn next-is ∙ after-is (at s t y) event ∙ sym (spoke-state s t y event p),
               ap (λ (g : Framed). g .frame .accepted) next-is ∙ not-counted (answerOf (at s t y) event) (f .frame .accepted) h ∙ r .counted ∙ sym (counted-by false o),
               λ a. ap (λ (g : Framed). g .frame .answer) next-is ∙ sym (spoke-answer s t y event p),
-              λ a. absurd (true≢false (sym (spoke-said s t y event p) ∙ a)),
+              λ a nz. absurd (true≢false (sym (spoke-said s t y event p) ∙ a)),
             )
             o (ap (λ (g : Framed). accepted (g .frame .answer)) next-is ∙ h)
 
@@ -252,37 +252,44 @@ module _ (B s : List ℕ) (t : ℕ) where
   later-fits y k e p o w =
       two (not (isOverrun e)) (all (λ e. not (isOverrun e)) (units k s t (onward s t y))) (subst (λ (es : List Event). T (all (λ e. not (isOverrun e)) es)) (units-on s t k y e p o) w) .1
 
+  -- a unit was accepted before it, so a scrap that ends in silence went on
+  silent-last : (k : ℕ) (y : Hearing) (f : Framed) → y .heard .said ≡ true
+      → (through k s t y .heard .said ≡ false → (k ≡ 0 → ⊥) → T (oneOf (frame.through k B t f .frame .answer) (3 ∷ 10 ∷ 11 ∷ [])))
+      → through k s t y .heard .said ≡ false → T (oneOf (frame.through k B t f .frame .answer) (3 ∷ 10 ∷ 11 ∷ []))
+  silent-last zero y f e h a = absurd (true≢false (sym e ∙ (let z : y .heard .said ≡ false = unfold through in a in z)))
+  silent-last (suc k) y f e h a = h a (λ z. let w : ⊥ = omega (arith, z) in w)
+
   -- what a frame and a scrap come to
   abbrev Together : ℕ → Hearing → Type 0
   Together k y =
       (f : Framed) → Rel y f → y .heard .line .dropping ≡ false → (y .heard .said ≡ true → f .frame .answer ≡ y .heard .answer)
-      → (y .heard .said ≡ false → T (oneOf (f .frame .answer) (3 ∷ 10 ∷ 11 ∷ 0 ∷ []))) → T (all (λ e. not (isOverrun e)) (units k s t y)) → Final (through k s t y) (frame.through k B t f)
+      → T (all (λ e. not (isOverrun e)) (units k s t y)) → Final k (through k s t y) (frame.through k B t f)
 
   together : (k : ℕ) (y : Hearing) → Together k y
-  together zero y f r d a b w = unfold through frame.through in (r .state, r .counted, a, b)
-  together (suc k) y f r d a b w = go (together k (onward s t y)) (asksOf y) refl
+  together zero y f r d a w = unfold through frame.through in (r .state, r .counted, a, λ b nz. absurd (nz refl))
+  together (suc k) y f r d a w = go (together k (onward s t y)) (asksOf y) refl
     where
-      go : Together k (onward s t y) → (v : Look) → asksOf y ≡ v → Final (through (suc k) s t y) (frame.through (suc k) B t f)
+      go : Together k (onward s t y) → (v : Look) → asksOf y ≡ v → Final (suc k) (through (suc k) s t y) (frame.through (suc k) B t f)
       go ih asks.Waits e = on-waits y f r d k e
       go ih asks.TooLong e = absurd (overruns y k (long (y .heard .line) (y .tables) (y .hold) (drop (y .heard .used) s) t d e) (overrun-not (at s t y) t) w)
       go ih (asks.Finished n) e = by-answer (accepted (answerOf (at s t y) (Arrive (take n (bytes y)) t))) refl
         where
-          by-answer : (c : Bool) → accepted (answerOf (at s t y) (Arrive (take n (bytes y)) t)) ≡ c → Final (through (suc k) s t y) (frame.through (suc k) B t f)
+          by-answer : (c : Bool) → accepted (answerOf (at s t y) (Arrive (take n (bytes y)) t)) ≡ c → Final (suc k) (through (suc k) s t y) (frame.through (suc k) B t f)
           by-answer false h = on-refused y f r d k n e h
           by-answer true h =
               let p = fed (y .heard .line) (y .tables) (y .hold) (drop (y .heard .used) s) t n d e in
               let event : Event = Arrive (take n (bytes y)) t in
               let o : goesOn (onward s t y .heard) ≡ true = spoke-goes s t y event p ∙ h in
               let q = next-is y f r d k n e in
+              let rest = ih (frame.onward B t f) (on-taken y f r d k n e h) (spoke-taken s t y event p h)
+              (λ a. ap (λ (g : Framed). g .frame .answer) q ∙ sym (spoke-answer s t y event p)) (later-fits y k event p o w) in
               rw (through-on s t y k o, framing.through-on B t f k (ap (λ (g : Framed). accepted (g .frame .answer)) q ∙ h))
-              (ih (frame.onward B t f) (on-taken y f r d k n e h) (spoke-taken s t y event p h) (λ a. ap (λ (g : Framed). g .frame .answer) q ∙ sym (spoke-answer s t y event p))
-              (λ a. absurd (true≢false (sym (spoke-said s t y event p) ∙ a))) (later-fits y k event p o w))
+              (rest .0, rest .1, rest .2, λ a nz. silent-last k (onward s t y) (frame.onward B t f) (spoke-said s t y event p) (rest .3) a)
 
 pub scrapIsFrame : S.ScrapIsFrame
-unfolding oneOf
 scrapIsFrame x hold scrap allowed time d h w =
     together (behind (x .line .held) hold scrap) scrap time allowed (opens x hold) (framedOf (opened (x .line .feed)) (x .tables))
-    (record { state = refl; counted = refl; left = refl }) d (λ a. absurd (true≢false (sym a))) (λ a. tt) w
+    (record { state = refl; counted = refl; left = refl }) d (λ a. absurd (true≢false (sym a))) w
 
 -- with a buffer for the longest unit nothing is too long
 never-asked : (u : Unit) → finished u ≡ asks.TooLong → ⊥

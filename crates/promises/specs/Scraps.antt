@@ -213,7 +213,7 @@ ScrapIsFrame =
     (stateIn f ≡ stateOn (linedIn y))
     × (f .frame .accepted ≡ y .heard .accepted)
     × (y .heard .said ≡ true → f .frame .answer ≡ y .heard .answer)
-    × (y .heard .said ≡ false → T (oneOf (f .frame .answer) (3 ∷ 10 ∷ 11 ∷ 0 ∷ [])))
+    × (y .heard .said ≡ false → (allowed ≡ 0 → ⊥) → T (oneOf (f .frame .answer) (3 ∷ 10 ∷ 11 ∷ [])))
 
 -- and with a buffer for the longest unit, of 20 + 65,535 bytes, 22 is never due of bytes
 abbrev pub longest : ℕ
