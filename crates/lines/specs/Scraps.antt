@@ -53,7 +53,7 @@ waits l hold scrap =
 abbrev pub refused : Given → ℕ → Heard
 refused g left = record { said = true; answer = g .answer; accepted = 0; used = left; line = record { feed = g .feed; held = 0; dropping = true } }
 
--- a unit of n bytes that was accepted, where `held` of them or more had waited
+-- a unit of n bytes that was accepted, where `held` bytes had waited: what it took of the scrap, and what still waits
 abbrev pub taken : Given → ℕ → ℕ → Heard
 taken g n held = record { said = true; answer = g .answer; accepted = 1; used = n - held; line = record { feed = g .feed; held = held - n; dropping = false } }
 
