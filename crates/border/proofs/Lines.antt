@@ -2,17 +2,17 @@
 use Prim.Native.Nat.{ℕ, zero, suc, _+_}
 use native.Mathlib.Omega.{arith}
 use native.Mathlib.Nat.{zero-add}
-use mathlib.Core.Path.{_≡_, refl, sym, ap, _∙_}
-use mathlib.Core.Bool.{Bool, true, false, cond, _&&_, true≢false}
+use mathlib.Core.Path.{_≡_, refl, sym, ap, _∙_, subst}
+use mathlib.Core.Bool.{Bool, true, false, cond, not, _&&_, true≢false}
 use mathlib.Core.List.{List, [], _∷_, _++_, append-nil}
 use lib.ListN.{length, take, drop}
-use lib.Dec.{ltb, eqb}
-use borrow.Author.Tests.{ne-eqb}
-use Rattle.ground.specs.Choice.{first}
-use Rattle.ground.proofs.Bools.{cond-same}
+use lib.Dec.{T, ltb, eqb}
+use borrow.Author.Tests.{ne-eqb, eqb-true}
+use Rattle.ground.specs.Choice.{oneOf, all, first}
+use Rattle.ground.proofs.Bools.{split, two, pair}
 use Rattle.ground.proofs.Choices.{each-has}
 use Rattle.feed.specs.Feeds.{plainBadge}
-use Rattle.feed.specs.Events.{Tables, Event, Connect}
+use Rattle.feed.specs.Events.{Tables, State, Event, Connect}
 use Rattle.feed.specs.Steps.{accepted, stateOf, outcome}
 use Rattle.feed.specs.declared.Given.{Given}
 use Rattle.feed.specs.declared.Link.{Link}
@@ -20,11 +20,13 @@ use Rattle.feed.proofs.Laws.{plain-badge}
 use Rattle.lines.specs.Scraps.{Hearing, once, onward, goesOn, through, hears, links}
 use Rattle.lines.specs.declared.Line.{Line}
 use Rattle.lines.specs.declared.Linked.{Linked}
-use Rattle.lines.proofs.Cases.{cond-no}
-use Rattle.promises.specs.Runs.{trace}
+use Rattle.lines.proofs.Cases.{cond-yes, cond-no}
+use Rattle.promises.specs.Refusals.{ending}
+use Rattle.promises.specs.Demands.{connects}
+use Rattle.promises.specs.Runs.{Sizes, after, answerOf, trace, isGreen}
 use Rattle.promises.specs.Frames.{answersIn}
-use Rattle.promises.specs.Scraps.{Lined, lined, stateOn, linedIn, opens, scrapped, scrapSaid, Seen, seen, enough, scraps, onePiece, linked, afterLine, runLine, newLine, endLine}
-use Rattle.promises.proofs.Scraps.{walk, first-turn, scrapDropped}
+use Rattle.promises.specs.Scraps.{Lined, lined, stateOn, linedIn, opens, scrapped, units, scrapSaid, scrapAnswers, View, view, scraps, onePiece, linked, afterLine, runLine, lineEvents, writtenLine, newLine, endLine, NoConnect}
+use Rattle.promises.proofs.Scraps.{Turn, silently, with-event, TurnAt, QuietAt, SpokeAt, turnAt, quiet-said, spoke-said, spoke-answer, spoke-state, spoke-goes, units-quiet, units-on, units-off, walk, first-turn, one-turn, scrapDropped, scrapListed, linkListed}
 use Rattle.promises.proofs.Cuts.{anyScraps, no-events}
 use Rattle.promises.proofs.Lines as P
 use Rattle.screen.specs.Plain.{yes, bit, linkOf, feedOf, plainFeed, lineOf, plainLine, PlainHearing, plainHearing, plainHears}
@@ -32,7 +34,7 @@ use Rattle.screen.specs.Calls.{linkedBack, linksBack, plainSilent, hearsBack}
 use Rattle.screen.specs.declared.MmdhLine.{MmdhLine}
 use Rattle.screen.specs.declared.MmdhLinked.{MmdhLinked}
 use Rattle.border.specs.Lines as C
-use Rattle.border.specs.Lines.{plainOnward, plainThrough, PlainSeen, plainEnough, plainScraps, HeldLine, PlainLineAct, LinksBy, HearsBy, plainAfterLine, plainRunLine, lineActOf, lineActsOf}
+use Rattle.border.specs.Lines.{plainOnward, plainThrough, plainSaid, PlainView, plainScraps, HeldLine, PlainLineAct, LinksBy, HearsBy, plainAfterLine, plainRunLine, lineActOf, lineActsOf, plainNewLine, lineSaysGreen, isLinked, noneLinked}
 use Rattle.border.proofs.Border.{bit-back, comesBack}
 
 pub lineComesBack : C.LineComesBack
@@ -65,12 +67,8 @@ module _ (x : Lined) (hold scrap : List ℕ) (time : ℕ) where
           back-heard (plainLine (x .line)) (x .tables) hold scrap k time (bit-back (x .line .dropping) ∙ d)
           ∙ ap (λ (l : Line). plainHears (hears l (x .tables) hold scrap (suc k) time)) (lineComesBack (x .line))
 
-  hears-one : scrapped x hold scrap 1 time ≡ onward scrap time (opens x hold)
-  unfolding through
-  hears-one = cond-same {A = Hearing} (goesOn (onward scrap time (opens x hold) .heard)) (onward scrap time (opens x hold))
-
   back-one : hearsBack (plainLine (x .line)) (x .tables) hold scrap 1 time ≡ plainHears (once (x .line) (x .tables) hold scrap time)
-  back-one = back-own 0 ∙ ap plainHears (hears-one ∙ first-turn x hold scrap time)
+  back-one = back-own 0 ∙ ap plainHears (one-turn x hold scrap time)
 
 -- a loop of calls goes as a scrap does
 onward-is : (scrap : List ℕ) (time : ℕ) (y : Hearing) → plainOnward scrap time (plainHears y) ≡ plainHears (onward scrap time y)
@@ -122,20 +120,21 @@ module _ (l : MmdhLine) (x : Tables) (hold scrap : List ℕ) (time : ℕ) where
       (z .tables)
       (z .hold)
 
+  pub first-dropped : yes (l .dropping) ≡ true → plainOnward scrap time begun ≡ plainHearing (plainSilent (length scrap) l) x hold
+  first-dropped d = first-is ∙ same-one (hearsBack l x hold scrap 1 time) ∙ back-dropped l x hold scrap 0 time d
+
+  pub first-heard : yes (l .dropping) ≡ false → plainOnward scrap time begun ≡ plainOnward scrap time (plainHears (opens (lined (lineOf l) x) hold))
+  first-heard d =
+      first-is ∙ same-one (hearsBack l x hold scrap 1 time) ∙ back-heard l x hold scrap 0 time d ∙ ap plainHears (one-turn (lined (lineOf l) x) hold scrap time ∙ sym (first-turn (lined (lineOf l) x) hold scrap time))
+      ∙ sym (onward-is scrap time (opens (lined (lineOf l) x) hold))
+
   loop-dropped : (k : ℕ) → yes (l .dropping) ≡ true → hearsBack l x hold scrap (suc k) time ≡ plainThrough (suc k) scrap time begun
   unfolding plainThrough yes
-  loop-dropped k d =
-      let o : plainOnward scrap time begun ≡ plainHearing (plainSilent (length scrap) l) x hold = first-is ∙ same-one (hearsBack l x hold scrap 1 time) ∙ back-dropped l x hold scrap 0 time d in
-      back-dropped l x hold scrap k time d ∙ rw o
+  loop-dropped k d = back-dropped l x hold scrap k time d ∙ rw (first-dropped d)
 
   loop-heard : (k : ℕ) → yes (l .dropping) ≡ false → hearsBack l x hold scrap (suc k) time ≡ plainThrough (suc k) scrap time begun
   unfolding plainThrough
-  loop-heard k d =
-      let y : Hearing = opens (lined (lineOf l) x) hold in
-      let o : plainOnward scrap time begun ≡ plainOnward scrap time (plainHears y) =
-      first-is ∙ same-one (hearsBack l x hold scrap 1 time) ∙ back-heard l x hold scrap 0 time d ∙ ap plainHears (hears-one (lined (lineOf l) x) hold scrap time)
-      ∙ sym (onward-is scrap time y) in
-      back-heard l x hold scrap k time d ∙ sym (through-is scrap time (suc k) y) ∙ rw (← o)
+  loop-heard k d = back-heard l x hold scrap k time d ∙ sym (through-is scrap time (suc k) (opens (lined (lineOf l) x) hold)) ∙ rw (← first-heard d)
 
 pub scrapIsLoop : C.ScrapIsLoop
 unfolding hearsBack first plainThrough
@@ -146,9 +145,96 @@ scrapIsLoop l x hold scrap (suc k) time = by (yes (l .dropping)) refl
     by true d = loop-dropped l x hold scrap time k d
     by false d = loop-heard l x hold scrap time k d
 
+-- what the loop is told, one by one
+module _ (scrap : List ℕ) (time k : ℕ) (y : Hearing) where
+  abbrev next : Hearing
+  next = onward scrap time y
+
+  abbrev SaidBy : ℕ → Hearing → Type 0
+  SaidBy n z = plainSaid n scrap time (plainHears z) ≡ answersIn (trace (stateOn (linedIn z)) (units n scrap time z))
+
+  said-step : (b : Bool) → next .heard .said ≡ b
+      → plainSaid (suc k) scrap time (plainHears y) ≡ cond b (next .heard .answer ∷ cond (accepted (next .heard .answer)) (plainSaid k scrap time (plainHears next)) []) []
+  unfolding plainSaid
+  said-step b e = rw (onward-is scrap time y, bit-back (next .heard .said), e)
+
+  said-quiet : QuietAt scrap time y → SaidBy (suc k) y
+  unfolding answersIn trace
+  said-quiet q = said-step false (quiet-said scrap time y q) ∙ rw (units-quiet scrap time k y q)
+
+  said-spoke : (e : Event) → SpokeAt scrap time y e → SaidBy k next → (b : Bool) → accepted (answerOf (stateOn (linedIn y)) e) ≡ b → SaidBy (suc k) y
+  unfolding answersIn trace
+  said-spoke e p rest b a =
+      let n : ℕ = answerOf (stateOn (linedIn y)) e in
+      let q : next .heard .answer ≡ n = spoke-answer scrap time y e p in
+      let o : goesOn (next .heard) ≡ b = spoke-goes scrap time y e p ∙ a in
+      said-step true (spoke-said scrap time y e p) ∙ (λ i. q i ∷ cond (accepted (q i)) (plainSaid k scrap time (plainHears next)) [])
+      ∙ ap (λ (r : List ℕ). n ∷ r) (then b a o) ∙ sym (ap (λ (es : List Event). answersIn (trace (stateOn (linedIn y)) es)) (units-are b o))
+    where
+      then : (b : Bool) → accepted (answerOf (stateOn (linedIn y)) e) ≡ b → goesOn (next .heard) ≡ b
+          → cond (accepted (answerOf (stateOn (linedIn y)) e)) (plainSaid k scrap time (plainHears next)) []
+          ≡ answersIn (trace (after (stateOn (linedIn y)) e) (cond b (units k scrap time next) []))
+      then true a o =
+          cond-yes (accepted (answerOf (stateOn (linedIn y)) e)) _ _ a ∙ rest ∙ ap (λ (s : State). answersIn (trace s (units k scrap time next))) (spoke-state scrap time y e p)
+      then false a o = cond-no (accepted (answerOf (stateOn (linedIn y)) e)) _ _ a
+
+      units-are : (b : Bool) → goesOn (next .heard) ≡ b → units (suc k) scrap time y ≡ e ∷ cond b (units k scrap time next) []
+      units-are true o = units-on scrap time k y e p o
+      units-are false o = units-off scrap time k y e p o
+
+  said-turn : TurnAt scrap time y → SaidBy k next → SaidBy (suc k) y
+  said-turn (silently q) rest = said-quiet q
+  said-turn (with-event e p) rest = said-spoke e p rest (accepted (answerOf (stateOn (linedIn y)) e)) refl
+
+said-is : (scrap : List ℕ) (time k : ℕ) (y : Hearing) → plainSaid k scrap time (plainHears y) ≡ answersIn (trace (stateOn (linedIn y)) (units k scrap time y))
+unfolding plainSaid answersIn trace units
+said-is scrap time zero y = refl
+said-is scrap time (suc k) y = said-turn scrap time k y (turnAt scrap time y) (said-is scrap time k (onward scrap time y))
+
+-- .. from any numbers on
+module _ (l : MmdhLine) (x : Tables) (hold scrap : List ℕ) (time k : ℕ) where
+  told-dropped : yes (l .dropping) ≡ true → plainSaid (suc k) scrap time (begun l x hold scrap time) ≡ []
+  unfolding plainSaid yes
+  told-dropped d = rw (first-dropped l x hold scrap time d)
+
+  told-first : yes (l .dropping) ≡ false → plainSaid (suc k) scrap time (begun l x hold scrap time) ≡ plainSaid (suc k) scrap time (plainHears (opens (lined (lineOf l) x) hold))
+  unfolding plainSaid
+  told-first d =
+      ap (λ (z : PlainHearing). cond (yes (z .heard .said)) (z .heard .answer ∷ cond (accepted (z .heard .answer)) (plainSaid k scrap time z) []) [])
+      (first-heard l x hold scrap time d)
+
+pub eachSaid : C.EachSaid
+unfolding plainSaid answersIn trace units
+eachSaid l x hold scrap zero time = refl
+eachSaid l x hold scrap (suc k) time = by (yes (l .dropping)) refl
+  where
+    by : (b : Bool) → yes (l .dropping) ≡ b → plainSaid (suc k) scrap time (begun l x hold scrap time) ≡ answersIn (scrapSaid (lined (lineOf l) x) hold scrap (suc k) time)
+    by true d = told-dropped l x hold scrap time k d ∙ sym (ap (λ (es : List Event). answersIn (trace (stateOn (lined (lineOf l) x)) es)) (no-events (lined (lineOf l) x) hold scrap time d k))
+    by false d = told-first l x hold scrap time k d ∙ said-is scrap time (suc k) (opens (lined (lineOf l) x) hold)
+
+answer-back : (l : MmdhLine) (r : Linked) → linkedBack l r .answer ≡ r .answer
+unfolding linkedBack
+answer-back l r = split (λ (k : MmdhLinked). k .answer ≡ r .answer) (eqb (r .answer) 0) _ _ (λ e. sym (eqb-true (r .answer) 0 e)) (λ e. refl)
+
+pub plainLinesListed : C.PlainLinesListed
+unfolding hearsBack first oneOf
+plainLinesListed l x hold scrap allowed resuming time = (
+  by (eqb allowed 0) (yes (l .dropping)),
+  rw (answer-back l (links (linked z hold (linkOf resuming) time) (z .line) hold)) (linkListed z hold (linkOf resuming) time),
+)
+  where
+    z : Lined
+    z = lined (lineOf l) x
+
+    by : (a b : Bool) → T (oneOf (first ((a, plainHearing (plainSilent 0 l) x hold) ∷ (b, plainHearing (plainSilent (length scrap) l) x hold) ∷ [])
+        (plainHears (scrapped z hold scrap allowed time)) .heard .answer) scrapAnswers)
+    by true b = tt
+    by false true = tt
+    by false false = scrapListed z hold scrap allowed time
+
 -- scraps by calls: what is seen in plain numbers
-abbrev plainSeen : Seen → PlainSeen
-plainSeen z = record {
+abbrev plainView : View → PlainView
+plainView z = record {
   answers = answersIn (z .said);
   feed = plainFeed (z .state .feed);
   tables = z .state .tables;
@@ -161,49 +247,54 @@ unfolding answersIn
 answers-two [] q = refl
 answers-two (a ∷ p) q = ap (λ (r : List ℕ). a .1 ∷ r) (answers-two p q)
 
-scraps-own : (ss : List (List ℕ)) (S : List (Event × ℕ)) (x : Lined) (hold : List ℕ) (time : ℕ)
-    → plainScraps (answersIn S) (plainLine (x .line)) (x .tables) hold ss time ≡ plainSeen (scraps S x hold ss time)
+-- a line's own numbers
+scraps-own : (ss : List (List ℕ)) (S : List (Event × ℕ)) (x : Lined) (hold : List ℕ) (k time : ℕ)
+    → plainScraps (answersIn S) (plainLine (x .line)) (x .tables) hold ss (suc k) time ≡ plainView (scraps S x hold ss (suc k) time)
 unfolding plainScraps scraps
-scraps-own [] S x hold time = refl
-scraps-own (s ∷ ss) S x hold time =
-    let y : Hearing = scrapped x hold s (enough x s) time in
-    let said : List (Event × ℕ) = scrapSaid x hold s (enough x s) time in
-    let a : answersIn S ++ answersIn (scrapSaid (lined (lineOf (plainLine (x .line))) (x .tables)) hold s (enough x s) time) ≡ answersIn (S ++ said) =
-    ap (λ (l : Line). answersIn S ++ answersIn (scrapSaid (lined l (x .tables)) hold s (enough x s) time)) (lineComesBack (x .line)) ∙ sym (answers-two S said) in
-    let b = back-own x hold s time (x .line .held + length s) in
-    (λ i. plainScraps (a i) (b i .heard .line) (b i .tables) (b i .hold) ss time) ∙ scraps-own ss (S ++ said) (linedIn y) (y .hold) time
+scraps-own [] S x hold k time = refl
+scraps-own (s ∷ ss) S x hold k time =
+    let y : Hearing = scrapped x hold s (suc k) time in
+    let said : List (Event × ℕ) = scrapSaid x hold s (suc k) time in
+    let a : answersIn S ++ plainSaid (suc k) s time (plainHearing (plainSilent 0 (plainLine (x .line))) (x .tables) hold) ≡ answersIn (S ++ said) =
+    ap (λ (r : List ℕ). answersIn S ++ r) (eachSaid (plainLine (x .line)) (x .tables) hold s (suc k) time
+    ∙ ap (λ (l : Line). answersIn (scrapSaid (lined l (x .tables)) hold s (suc k) time)) (lineComesBack (x .line)))
+    ∙ sym (answers-two S said) in
+    let b = back-own x hold s time k in
+    (λ i. plainScraps (a i) (b i .heard .line) (b i .tables) (b i .hold) ss (suc k) time) ∙ scraps-own ss (S ++ said) (linedIn y) (y .hold) k time
 
 -- a line that drops stays as it was handed in
-scraps-dropped : (ss : List (List ℕ)) (answers : List ℕ) (l : MmdhLine) (x : Tables) (hold : List ℕ) (time : ℕ) → yes (l .dropping) ≡ true
-    → plainScraps answers l x hold ss time ≡ record { answers = answers; feed = l .feed; tables = x; waiting = take (l .held) hold; dropping = l .dropping }
+scraps-dropped : (ss : List (List ℕ)) (answers : List ℕ) (l : MmdhLine) (x : Tables) (hold : List ℕ) (k time : ℕ) → yes (l .dropping) ≡ true
+    → plainScraps answers l x hold ss (suc k) time ≡ record { answers = answers; feed = l .feed; tables = x; waiting = take (l .held) hold; dropping = l .dropping }
 unfolding plainScraps answersIn trace
-scraps-dropped [] answers l x hold time d = refl
-scraps-dropped (s ∷ ss) answers l x hold time d =
-    let b = back-dropped l x hold s (l .held + length s) time d in
-    let e = no-events (lined (lineOf l) x) hold s time d (l .held + length s) in
-    let a : answers ++ answersIn (scrapSaid (lined (lineOf l) x) hold s (plainEnough l s) time) ≡ answers =
-    ap (λ (es : List Event). answers ++ answersIn (trace (stateOn (lined (lineOf l) x)) es)) e ∙ append-nil answers in
-    (λ i. plainScraps (a i) (b i .heard .line) (b i .tables) (b i .hold) ss time) ∙ scraps-dropped ss answers l x hold time d
+scraps-dropped [] answers l x hold k time d = refl
+scraps-dropped (s ∷ ss) answers l x hold k time d =
+    let b = back-dropped l x hold s k time d in
+    let a : answers ++ plainSaid (suc k) s time (begun l x hold s time) ≡ answers =
+    ap (λ (r : List ℕ). answers ++ r) (eachSaid l x hold s (suc k) time)
+    ∙ ap (λ (es : List Event). answers ++ answersIn (trace (stateOn (lined (lineOf l) x)) es)) (no-events (lined (lineOf l) x) hold s time d k)
+    ∙ append-nil answers in
+    (λ i. plainScraps (a i) (b i .heard .line) (b i .tables) (b i .hold) ss (suc k) time) ∙ scraps-dropped ss answers l x hold k time d
 
-scraps-heard : (s : List ℕ) (ss : List (List ℕ)) (l : MmdhLine) (x : Tables) (hold : List ℕ) (time : ℕ) → yes (l .dropping) ≡ false
-    → plainScraps [] l x hold (s ∷ ss) time ≡ plainSeen (scraps [] (lined (lineOf l) x) hold (s ∷ ss) time)
+scraps-heard : (s : List ℕ) (ss : List (List ℕ)) (l : MmdhLine) (x : Tables) (hold : List ℕ) (k time : ℕ) → yes (l .dropping) ≡ false
+    → plainScraps [] l x hold (s ∷ ss) (suc k) time ≡ plainView (scraps [] (lined (lineOf l) x) hold (s ∷ ss) (suc k) time)
 unfolding plainScraps scraps
-scraps-heard s ss l x hold time d =
+scraps-heard s ss l x hold k time d =
     let z : Lined = lined (lineOf l) x in
-    let y : Hearing = scrapped z hold s (enough z s) time in
-    let b = back-heard l x hold s (l .held + length s) time d in
-    ap (λ (q : PlainHearing). plainScraps ([] ++ answersIn (scrapSaid z hold s (enough z s) time)) (q .heard .line) (q .tables) (q .hold) ss time) b
-    ∙ scraps-own ss ([] ++ scrapSaid z hold s (enough z s) time) (linedIn y) (y .hold) time
+    let y : Hearing = scrapped z hold s (suc k) time in
+    let b = back-heard l x hold s k time d in
+    (λ i. plainScraps ([] ++ eachSaid l x hold s (suc k) time i) (b i .heard .line) (b i .tables) (b i .hold) ss (suc k) time)
+    ∙ scraps-own ss ([] ++ scrapSaid z hold s (suc k) time) (linedIn y) (y .hold) k time
 
 pub plainAnyScraps : C.PlainAnyScraps
-plainAnyScraps l x hold s ss time = by (yes (l .dropping)) refl
+plainAnyScraps l x hold s ss zero time h = absurd (let z : ⊥ = omega (arith, h) in z)
+plainAnyScraps l x hold s ss (suc k) time h = by (yes (l .dropping)) refl
   where
-    by : (b : Bool) → yes (l .dropping) ≡ b → plainScraps [] l x hold (s ∷ ss) time ≡ plainScraps [] l x hold (onePiece (s ∷ ss) ∷ []) time
-    by true d = scraps-dropped (s ∷ ss) [] l x hold time d ∙ sym (scraps-dropped (onePiece (s ∷ ss) ∷ []) [] l x hold time d)
+    by : (b : Bool) → yes (l .dropping) ≡ b → plainScraps [] l x hold (s ∷ ss) (suc k) time ≡ plainScraps [] l x hold (onePiece (s ∷ ss) ∷ []) (suc k) time
+    by true d = scraps-dropped (s ∷ ss) [] l x hold k time d ∙ sym (scraps-dropped (onePiece (s ∷ ss) ∷ []) [] l x hold k time d)
     by false d =
-        scraps-heard s ss l x hold time d
-        ∙ ap plainSeen (anyScraps (lined (lineOf l) x) hold s ss time)
-        ∙ sym (scraps-heard (onePiece (s ∷ ss)) [] l x hold time d)
+        scraps-heard s ss l x hold k time d
+        ∙ ap plainView (anyScraps (lined (lineOf l) x) hold s ss (suc k) time h)
+        ∙ sym (scraps-heard (onePiece (s ∷ ss)) [] l x hold k time d)
 
 -- runs
 abbrev plain : Lined → HeldLine
@@ -230,25 +321,23 @@ module _ (x : Lined) (hold : List ℕ) (link : Link) (time : ℕ) where
           either true = refl
           either false = sym (ap plainLine e)
 
-      zero-only : accepted (g .answer) ≡ true → g .answer ≡ 0
-      zero-only a =
-          each-has (λ n. accepted n ≡ true → n ≡ 0) (10 ∷ 20 ∷ 0 ∷ [])
-          (λ z. absurd (true≢false (sym z)), (λ z. absurd (true≢false (sym z)), (λ z. refl, tt))) (g .answer) (P.listed x hold link time) a
-
       by : (a : Bool) → accepted (g .answer) ≡ a → (b : Bool) → ltb (length hold) 22 ≡ b → back (plainLine (x .line)) made ≡ plainLine (made .line)
       by false a b e = unchanged made (ap (λ (r : Linked). r .line) (P.links-refused x hold link time a))
       by true a true e = unchanged made (ap (λ (r : Linked). r .line) (P.links-short x hold link time a e))
       by true a false e =
-          let q : made .answer ≡ 0 = ap (λ (r : Linked). r .answer) (P.links-made x hold link time a e) ∙ zero-only a in
+          let q : made .answer ≡ 0 = ap (λ (r : Linked). r .answer) (P.links-made x hold link time a e) ∙ P.zero-only x hold link time a in
           ap (λ (n : ℕ). cond {A = MmdhLinked} (eqb n 0) (record { answer = 0; line = plainLine (made .line) }) (record { answer = made .answer; line = plainLine (x .line) }) .line) q
+
+links-back : (x : Lined) (hold : List ℕ) (resuming time : ℕ)
+    → linksBack (plainLine (x .line)) hold (outcome (stateOf (feedOf (plainFeed (x .line .feed))) (x .tables)) (Connect (linkOf resuming) time) .given)
+    ≡ linkedBack (plainLine (x .line)) (links (linked x hold (linkOf resuming) time) (x .line) hold)
+links-back x hold resuming time =
+    λ i. linkedBack (plainLine (x .line)) (links (outcome (stateOf (lineComesBack (x .line) i .feed) (x .tables)) (Connect (linkOf resuming) time) .given) (lineComesBack (x .line) i) hold)
 
 act-is : (x : Lined) (a : PlainLineAct) → plainAfterLine (plain x) a ≡ plain (afterLine x (lineActOf a))
 unfolding plainAfterLine afterLine lineActOf
 act-is x (LinksBy hold resuming time) =
-    let e : linksBack (plainLine (x .line)) hold (outcome (stateOf (feedOf (plainFeed (x .line .feed))) (x .tables)) (Connect (linkOf resuming) time) .given)
-    ≡ linkedBack (plainLine (x .line)) (links (linked x hold (linkOf resuming) time) (x .line) hold) =
-    λ i. linkedBack (plainLine (x .line)) (links (outcome (stateOf (lineComesBack (x .line) i .feed) (x .tables)) (Connect (linkOf resuming) time) .given) (lineComesBack (x .line) i) hold) in
-    λ i. record { line = (ap (λ (r : MmdhLinked). r .line) e ∙ line-back x hold (linkOf resuming) time) i; tables = x .tables }
+    λ i. record { line = (ap (λ (r : MmdhLinked). r .line) (links-back x hold resuming time) ∙ line-back x hold (linkOf resuming) time) i; tables = x .tables }
 act-is x (HearsBy hold scrap zero time) = unfold hearsBack first through in refl
 act-is x (HearsBy hold scrap (suc k) time) = ap (λ (y : PlainHearing). record { line = y .heard .line; tables = y .tables }) (back-own x hold scrap time k)
 
@@ -266,8 +355,54 @@ isLineRun limit n acts =
 pub plainLinesReplayed : C.PlainLinesReplayed
 plainLinesReplayed limit n acts = isLineRun limit n acts .1 ∙ P.linesReplayed limit n (lineActsOf acts)
 
+-- mmdh_badge of a line's own numbers
+badge-is : (x : Lined) (time : ℕ) → lineSaysGreen (plain x) time ≡ isGreen (stateOn x) time
+badge-is x time = ap (λ (k : ℕ). eqb k 1) (plain-badge (x .line .feed) time)
+
+green-is : (limit : ℕ) (n : Sizes) (acts : List PlainLineAct) (time : ℕ)
+    → lineSaysGreen (plainRunLine (plainNewLine limit n) acts) time ≡ isGreen (stateOn (endLine limit n (lineActsOf acts))) time
+unfolding bit
+green-is limit n acts time = ap (λ (x : HeldLine). lineSaysGreen x time) (acts-are acts (newLine limit n)) ∙ badge-is (endLine limit n (lineActsOf acts)) time
+
 pub plainLinesGreen : C.PlainLinesGreen
-plainLinesGreen limit n acts time =
-    ap (λ (l : MmdhLine). eqb (plainBadge (l .feed .phase) (l .feed .heard) (l .feed .limit) time) 1) (isLineRun limit n acts .0)
-    ∙ ap (λ (k : ℕ). eqb k 1) (plain-badge (endLine limit n (lineActsOf acts) .line .feed) time)
-    ∙ P.linesGreen limit n (lineActsOf acts) time
+plainLinesGreen limit n acts time = green-is limit n acts time ∙ P.linesGreen limit n (lineActsOf acts) time
+
+pub plainLinesNoneLeftOut : C.PlainLinesNoneLeftOut
+plainLinesNoneLeftOut limit n acts time g = P.linesNoneLeftOut limit n (lineActsOf acts) time (sym (green-is limit n acts time) ∙ g)
+
+-- the morning
+back-any : (x : Lined) (hold scrap : List ℕ) (k time : ℕ) → hearsBack (plainLine (x .line)) (x .tables) hold scrap k time ≡ plainHears (scrapped x hold scrap k time)
+back-any x hold scrap zero time = unfold hearsBack first through bit in refl
+back-any x hold scrap (suc k) time = back-own x hold scrap time k
+
+act-none : (x : Lined) (a : PlainLineAct) → T (not (isLinked (plain x) a)) → T (all (λ p. not (connects p)) (trace (stateOn x) (lineEvents x (lineActOf a))))
+act-none x (LinksBy hold resuming time) h =
+    unfold lineActOf in (P.link-none x hold (linkOf resuming) time
+    (λ z. subst (λ (n : ℕ). T (not (eqb n 0)))
+    (ap (λ (r : MmdhLinked). r .answer) (links-back x hold resuming time) ∙ answer-back (plainLine (x .line)) (links (linked x hold (linkOf resuming) time) (x .line) hold) ∙ z)
+    (unfold isLinked in h)))
+act-none x (HearsBy hold scrap allowed time) h = unfold lineActOf in (P.scrap-none x hold scrap allowed time)
+
+none-linked : (acts : List PlainLineAct) (x : Lined) → T (noneLinked (plain x) acts) → NoConnect x (lineActsOf acts)
+unfolding noneLinked lineActsOf
+none-linked [] x h = unfold writtenLine trace all in tt
+none-linked (a ∷ acts) x h =
+    let k = two (not (isLinked (plain x) a)) (noneLinked (plainAfterLine (plain x) a) acts) h in
+    P.none-on x (lineActOf a) (lineActsOf acts) (act-none x a (k .0)) (none-linked acts (afterLine x (lineActOf a)) (subst (λ (y : HeldLine). T (noneLinked y acts)) (act-is x a) (k .1)))
+
+pub plainLineStaysDark : C.PlainLineStaysDark
+unfolding bit afterLine lineActOf runLine lineActsOf
+plainLineStaysDark limit n acts hold scrap allowed moment more time h c =
+    let x : Lined = endLine limit n (lineActsOf acts) in
+    let lost : PlainLineAct = HearsBy hold scrap allowed moment in
+    let e = acts-are acts (newLine limit n) in
+    let y : Lined = afterLine x (lineActOf lost) in
+    let f : plainAfterLine (plainRunLine (plainNewLine limit n) acts) lost ≡ plain y = ap (λ (z : HeldLine). plainAfterLine z lost) e ∙ act-is x lost in
+    let h′ : T (oneOf (scrapped x hold scrap allowed moment .heard .answer) ending) =
+    subst (λ (z : PlainHearing). T (oneOf (z .heard .answer) ending)) (ap (λ (z : HeldLine). hearsBack (z .line) (z .tables) hold scrap allowed moment) e ∙ back-any x hold scrap allowed moment) h in
+    let c′ : NoConnect y (lineActsOf more) = none-linked more y (subst (λ (z : HeldLine). T (noneLinked z more)) f c) in
+    ap (λ (z : HeldLine). lineSaysGreen (plainRunLine z more) time) f
+    ∙ ap (λ (z : HeldLine). lineSaysGreen z time) (acts-are more y)
+    ∙ badge-is (runLine y (lineActsOf more)) time
+    ∙ sym (ap (λ (z : Lined). isGreen (stateOn z) time) (P.runs-on (lineActsOf acts) (lineActOf lost ∷ lineActsOf more) (newLine limit n)))
+    ∙ P.lineStaysDark limit n (lineActsOf acts) hold scrap allowed moment (lineActsOf more) time h′ c′

@@ -262,7 +262,7 @@ unfolding promises-Runs.after promises-Runs.run promises-Runs.trace promises-Run
 promises-runs = 0
 
 unfoldable promises-scraps : ℕ
-unfolding promises-Scraps.due promises-Scraps.meets promises-Scraps.units promises-Scraps.scraps promises-Scraps.onePiece promises-Scraps.isOverrun promises-Scraps.afterLine promises-Scraps.runLine promises-Scraps.lineEvents promises-Scraps.writtenLine promises-Scraps.lineBytes promises-Scraps.onlyScraps
+unfolding promises-Scraps.dueEvents promises-Scraps.turnEvents promises-Scraps.units promises-Scraps.scraps promises-Scraps.onePiece promises-Scraps.isOverrun promises-Scraps.afterLine promises-Scraps.runLine promises-Scraps.lineEvents promises-Scraps.writtenLine promises-Scraps.lineBytes promises-Scraps.refusedSince
 promises-scraps = 0
 
 unfoldable promises-section6 : ℕ
@@ -286,7 +286,7 @@ unfolding promises-Tables.on promises-Tables.refused promises-Tables.firstBid pr
 promises-tables = 0
 
 unfoldable promises-torn : ℕ
-unfolding promises-Torn.rising promises-Torn.own promises-Torn.room promises-Torn.line promises-Torn.torn promises-Torn.shut promises-Torn.sameLine promises-Torn.tells promises-Torn.quietAfter promises-Torn.quiet promises-Torn.says promises-Torn.booked promises-Torn.withStrips promises-Torn.on promises-Torn.scrap promises-Torn.hand promises-Torn.follows promises-Torn.after promises-Torn.book promises-Torn.passed promises-Torn.priced promises-Torn.beaten promises-Torn.lays promises-Torn.waits promises-Torn.byteByByte promises-Torn.singly promises-Torn.tornUnits promises-Torn.mixed promises-Torn.places promises-Torn.numbers promises-Torn.sized promises-Torn.lengths promises-Torn.over promises-Torn.limits promises-Torn.stays promises-Torn.order promises-Torn.silent promises-Torn.finishes promises-Torn.late promises-Torn.refusesOn promises-Torn.refuses promises-Torn.refusals promises-Torn.connect promises-Torn.connects promises-Torn.opening promises-Torn.opened promises-Torn.ran promises-Torn.early promises-Torn.tooLong promises-Torn.gap promises-Torn.again promises-Torn.beat promises-Torn.mornings promises-Torn.dark promises-Torn.spelt promises-Torn.sameSaid promises-Torn.cut promises-Torn.scrapsOf promises-Torn.goodMorning promises-Torn.loggedOn promises-Torn.allGood promises-Torn.cuttings promises-Torn.endsAt promises-Torn.leftOut promises-Torn.noSize promises-Torn.tooEarly promises-Torn.broken
+unfolding promises-Torn.climbing promises-Torn.own promises-Torn.room promises-Torn.line promises-Torn.torn promises-Torn.shut promises-Torn.sameLine promises-Torn.tells promises-Torn.quietAfter promises-Torn.quiet promises-Torn.says promises-Torn.booked promises-Torn.withStrips promises-Torn.on promises-Torn.scrap promises-Torn.hand promises-Torn.follows promises-Torn.after promises-Torn.book promises-Torn.passed promises-Torn.priced promises-Torn.beaten promises-Torn.lays promises-Torn.waits promises-Torn.byteByByte promises-Torn.singly promises-Torn.tornUnits promises-Torn.mixed promises-Torn.places promises-Torn.numbers promises-Torn.sized promises-Torn.lengths promises-Torn.over promises-Torn.limits promises-Torn.stays promises-Torn.order promises-Torn.silent promises-Torn.finishes promises-Torn.late promises-Torn.refusesOn promises-Torn.refuses promises-Torn.refusals promises-Torn.connect promises-Torn.reconnects promises-Torn.opening promises-Torn.opened promises-Torn.ran promises-Torn.early promises-Torn.tooLong promises-Torn.gap promises-Torn.again promises-Torn.beat promises-Torn.mornings promises-Torn.dark promises-Torn.spelt promises-Torn.sameSaid promises-Torn.cut promises-Torn.scrapsOf promises-Torn.goodMorning promises-Torn.loggedOn promises-Torn.allGood promises-Torn.cuttings promises-Torn.endsAt promises-Torn.leftOut promises-Torn.noSize promises-Torn.tooEarly promises-Torn.broken
 promises-torn = 0
 
 unfoldable promises-traps : ℕ

@@ -25,8 +25,8 @@ use Rattle.lines.proofs.Fronts.{look-waits, look-finished}
 use Rattle.lines.proofs.Courses.{onward-counts, through-on, through-ends}
 use Rattle.promises.specs.Runs.{after, answerOf, trace}
 use Rattle.promises.specs.Scraps as S
-use Rattle.promises.specs.Scraps.{Lined, stateOn, linedIn, opens, scrapped, units, scrapEvents, scrapSaid, Seen, seen, enough, scraps, onePiece}
-use Rattle.promises.proofs.Scraps.{On, Off, at, metAt, walk, once-is, dropped, quiet-off, spoke-goes, spoke-state, spoke-taken, units-quiet, units-on, units-off, scrapEnds, scrapDropped, scrapStops, SpokeAt, waits, long, fed}
+use Rattle.promises.specs.Scraps.{Lined, stateOn, linedIn, opens, scrapped, units, scrapEvents, scrapSaid, View, view, scraps, onePiece}
+use Rattle.promises.proofs.Scraps.{On, Off, at, metAt, walk, once-is, dropped, quiet-off, spoke-goes, spoke-state, spoke-taken, units-quiet, units-on, units-off, ends, scrapWithin, scrapDropped, scrapStops, SpokeAt, waits, long, fed}
 use Rattle.promises.proofs.Flows.{eventOf, sizeOf, isWaits, told, joined, answered, rests, pump, pump-rest, pump-go, pump-same, settles, size, later, later-on, later-off, cut, joined-size, any-size, joined-twice, dropped-rests}
 
 -- a buffer that is shorter than what waits is as good as none
@@ -60,7 +60,7 @@ moved-long w n h a =
     length-append (drop n (take w h)) (drop (length (drop n (take w h))) h) ∙ rw (k, length-drop (w - n) h) (omega arith)
 
 -- where a scrap stands, as one list of bytes: those that wait, and those that are left
-abbrev pub flow : List (Event × ℕ) → List ℕ → Hearing → Seen
+abbrev pub flow : List (Event × ℕ) → List ℕ → Hearing → View
 flow said s y = record {
   said = said;
   state = stateOn (linedIn y);
@@ -91,7 +91,7 @@ module _ (S : List (Event × ℕ)) (s : List ℕ) (t : ℕ) (y : Hearing) (d : y
   none-after = sym (drop-drop (length left) (y .heard .used) s) ∙ drop-length left
 
   -- what only waits is the same bytes as before
-  waits-flow : lk ≡ Waits → flow S s (onward s t y) ≡ flow S s y
+  pub waits-flow : lk ≡ Waits → flow S s (onward s t y) ≡ flow S s y
   unfolding onward looked
   waits-flow e =
       let o = once-is (y .heard .line) (y .tables) (y .hold) left t Waits d e in
@@ -210,12 +210,12 @@ module _ (S : List (Event × ℕ)) (s : List ℕ) (t : ℕ) (y : Hearing) (d : y
     room-kept a =
         rw (hold-long a, held-less a, le-ltb (length (y .hold)) (w - n) (let f = facts .0 in omega arith), le-ltb (length (y .hold)) w (facts .0))
 
-pub told-waiting : (l : Seen) (e : Event) (r : List ℕ) → accepted (answerOf (l .state) e) ≡ true → told l e r .waiting ≡ r
+pub told-waiting : (l : View) (e : Event) (r : List ℕ) → accepted (answerOf (l .state) e) ≡ true → told l e r .waiting ≡ r
 unfolding told
 told-waiting l e r h = rw h
 
 -- what is due of a list of bytes that asks for v
-module _ (r t : ℕ) (l : Seen) (v : Look) (e : look r 0 (l .waiting) ≡ v) where
+module _ (r t : ℕ) (l : View) (v : Look) (e : look r 0 (l .waiting) ≡ v) where
   answered-is : answered r t l ≡ told l (eventOf v (l .waiting) t) (drop (sizeOf v) (l .waiting))
   unfolding answered
   answered-is = rw e
@@ -225,11 +225,11 @@ module _ (r t : ℕ) (l : Seen) (v : Look) (e : look r 0 (l .waiting) ≡ v) whe
   rests-is d = ap (λ (b : Bool). b || isWaits (look r 0 (l .waiting))) d ∙ ap isWaits e
 
 -- a refusal leaves nothing, whatever stood behind it
-refused-rest : (l : Seen) (e : Event) (a b : List ℕ) → accepted (answerOf (l .state) e) ≡ false → told l e a ≡ told l e b
+refused-rest : (l : View) (e : Event) (a b : List ℕ) → accepted (answerOf (l .state) e) ≡ false → told l e a ≡ told l e b
 unfolding told
 refused-rest l e a b h = rw h
 
-refused-drops : (l : Seen) (e : Event) (a : List ℕ) → accepted (answerOf (l .state) e) ≡ false → told l e a .dropping ≡ true
+refused-drops : (l : View) (e : Event) (a : List ℕ) → accepted (answerOf (l .state) e) ≡ false → told l e a .dropping ≡ true
 unfolding told
 refused-drops l e a h = rw h
 
@@ -239,7 +239,7 @@ module _ (s : List ℕ) (t : ℕ) where
       (S : List (Event × ℕ)) → y .heard .line .dropping ≡ false → flow (S ++ trace (at s t y) (units k s t y)) s (through k s t y) ≡ pump (roomAt y) t k (flow S s y)
 
   module _ (k : ℕ) (y : Hearing) (S : List (Event × ℕ)) (d : y .heard .line .dropping ≡ false) where
-    abbrev here : Seen
+    abbrev here : View
     here = flow S s y
 
     abbrev bytes : List ℕ
@@ -363,7 +363,7 @@ module _ (s : List ℕ) (t : ℕ) (y : Hearing) (d : y .heard .line .dropping �
           let p = fed (y .heard .line) (y .tables) (y .hold) rest t n d e in
           let a = sym (spoke-goes s t y (Arrive (take n (behind held (y .hold) rest)) t) p) ∙ o in
           let f = look-finished (length (y .hold)) held (behind held (y .hold) rest) n e in
-          let u = ap (λ (z : Seen). z .waiting) (unit-flow [] s t y d n e) ∙ told-waiting (flow [] s y) (Arrive (take n (behind held (y .hold) rest)) t) (drop n (behind held (y .hold) rest)) a in
+          let u = ap (λ (z : View). z .waiting) (unit-flow [] s t y d n e) ∙ told-waiting (flow [] s y) (Arrive (take n (behind held (y .hold) rest)) t) (drop n (behind held (y .hold) rest)) a in
           (rw (u, length-drop n (behind held (y .hold) rest)) (omega (arith, f .2, f .3)), spoke-taken s t y (Arrive (take n (behind held (y .hold) rest)) t) p a)
 
 module _ (s : List ℕ) (t : ℕ) where
@@ -400,71 +400,80 @@ module _ (s : List ℕ) (t : ℕ) where
       (λ o. let r = later-holds k (onward s t y) (shrinks s t y d o .1) f in (r .0 ∙ h .0, r .1))
       (λ o. (h .0, f))
 
+-- a line that drops meets nothing
+pub no-events : (x : Lined) (hold s : List ℕ) (t : ℕ) → x .line .dropping ≡ true → (k : ℕ) → units (suc k) s t (opens x hold) ≡ []
+no-events x hold s t d k = units-quiet s t k (opens x hold) (dropped (x .line) (x .tables) hold s t d)
+
 -- a scrap with enough allowed
-module _ (x : Lined) (hold s : List ℕ) (t : ℕ) where
+module _ (x : Lined) (hold s : List ℕ) (n t : ℕ) (h : length (behind (x .line .held) hold s) ≤ n) where
   abbrev start : Hearing
   start = opens x hold
 
   abbrev ended : Hearing
-  ended = scrapped x hold s (enough x s) t
+  ended = scrapped x hold s (suc n) t
 
-  come-most : length (take (x .line .held) hold ++ s) ≤ x .line .held + length s
-  come-most = rw (length-append (take (x .line .held) hold) s, length-take (x .line .held) hold) (omega arith)
-
-  never-reached : x .line .dropping ≡ false → ended .heard .accepted < enough x s
-  never-reached d = omega (arith, counts s t (enough x s) start d, come-most)
+  never-reached : x .line .dropping ≡ false → ended .heard .accepted < suc n
+  never-reached d = omega (arith, counts s t (suc n) start d, h)
 
   all-used : x .line .dropping ≡ false → ended .heard .used ≡ length s
   all-used d = by (ended .heard .said) refl (accepted (ended .heard .answer)) refl
     where
       by : (a : Bool) → ended .heard .said ≡ a → (b : Bool) → accepted (ended .heard .answer) ≡ b → ended .heard .used ≡ length s
-      by false e b f = scrapEnds x hold s (x .line .held + length s) t .0 e
-      by true e true f = absurd (let z : ⊥ = omega (arith, scrapEnds x hold s (x .line .held + length s) t .1 e f, never-reached d) in z)
-      by true e false f = scrapEnds x hold s (x .line .held + length s) t .2 e f .0
-
-  pub no-events : x .line .dropping ≡ true → (k : ℕ) → units (suc k) s t start ≡ []
-  no-events d k = units-quiet s t k start (dropped (x .line) (x .tables) hold s t d)
+      by false e b f = ends s t n start (omega arith) .0 e
+      by true e true f = absurd (let z : ⊥ = omega (arith, ends s t n start (omega arith) .1 e f, never-reached d) in z)
+      by true e false f = ends s t n start (omega arith) .2 e f .0
 
   module _ (S : List (Event × ℕ)) where
-    abbrev before : Seen
-    before = seen S start
+    abbrev before : View
+    before = view S start
 
     joined-start : flow S s start ≡ joined s before
     unfolding joined
     joined-start = refl
 
-    call-off : x .line .dropping ≡ true → seen (S ++ scrapSaid x hold s (enough x s) t) ended ≡ before
+    call-off : x .line .dropping ≡ true → view (S ++ scrapSaid x hold s (suc n) t) ended ≡ before
     unfolding trace
     call-off d =
-        let e = scrapDropped x hold s (x .line .held + length s) t d in
-        rw (no-events d (x .line .held + length s)) ((λ i. seen (append-nil S i) (e i)))
+        let e = scrapDropped x hold s n t d in
+        rw (no-events x hold s t d n) ((λ i. view (append-nil S i) (e i)))
 
-    call-on : x .line .dropping ≡ false → seen (S ++ scrapSaid x hold s (enough x s) t) ended ≡ pump (room (x .line .held) (length hold)) t (enough x s) (joined s before)
+    call-on : x .line .dropping ≡ false → view (S ++ scrapSaid x hold s (suc n) t) ended ≡ pump (room (x .line .held) (length hold)) t (suc n) (joined s before)
     call-on d =
         let u : take (ended .heard .line .held) (ended .hold) ++ drop (ended .heard .used) s ≡ take (ended .heard .line .held) (ended .hold) =
         ap (λ (k : ℕ). take (ended .heard .line .held) (ended .hold) ++ drop k s) (all-used d)
         ∙ ap (λ (z : List ℕ). take (ended .heard .line .held) (ended .hold) ++ z) (drop-length s)
         ∙ append-nil (take (ended .heard .line .held) (ended .hold)) in
-        (λ i. record { said = S ++ scrapSaid x hold s (enough x s) t; state = stateOn (linedIn ended); waiting = sym u i; dropping = ended .heard .line .dropping })
-        ∙ through-flow s t (enough x s) start S d ∙ ap (pump (room (x .line .held) (length hold)) t (enough x s)) joined-start
+        (λ i. record { said = S ++ scrapSaid x hold s (suc n) t; state = stateOn (linedIn ended); waiting = sym u i; dropping = ended .heard .line .dropping })
+        ∙ through-flow s t (suc n) start S d ∙ ap (pump (room (x .line .held) (length hold)) t (suc n)) joined-start
 
     -- a call is what comes after, with any number of turns that suffices
-    call-is : (k : ℕ) → suc (length (take (x .line .held) hold ++ s)) ≤ k → seen (S ++ scrapSaid x hold s (enough x s) t) ended ≡ later (room (x .line .held) (length hold)) t s k before
-    call-is k h = by (x .line .dropping) refl
+    call-is : (k : ℕ) → suc (length (take (x .line .held) hold ++ s)) ≤ k → view (S ++ scrapSaid x hold s (suc n) t) ended ≡ later (room (x .line .held) (length hold)) t s k before
+    call-is k m = by (x .line .dropping) refl
       where
         r : ℕ
         r = room (x .line .held) (length hold)
 
-        by : (a : Bool) → x .line .dropping ≡ a → seen (S ++ scrapSaid x hold s (enough x s) t) ended ≡ later r t s k before
+        by : (a : Bool) → x .line .dropping ≡ a → view (S ++ scrapSaid x hold s (suc n) t) ended ≡ later r t s k before
         by true d = call-off d ∙ sym (later-off r t s k before d)
         by false d =
             let z = joined-size r t before s d in
-            call-on d ∙ pump-same r t (enough x s) k (joined s before) (omega (arith, z, come-most)) (omega (arith, z, h)) ∙ sym (later-on r t s k before d)
+            call-on d ∙ pump-same r t (suc n) k (joined s before) (omega (arith, z, h)) (omega (arith, z, m)) ∙ sym (later-on r t s k before d)
 
-    rests-after : x .line .dropping ≡ false → rests (room (x .line .held) (length hold)) t (seen (S ++ scrapSaid x hold s (enough x s) t) ended) ≡ true
+    rests-after : x .line .dropping ≡ false → rests (room (x .line .held) (length hold)) t (view (S ++ scrapSaid x hold s (suc n) t) ended) ≡ true
     rests-after d =
-        rw (call-on d) (settles (room (x .line .held) (length hold)) t (enough x s) (joined s before)
-        (let z = joined-size (room (x .line .held) (length hold)) t before s d in omega (arith, z, come-most)))
+        rw (call-on d) (settles (room (x .line .held) (length hold)) t (suc n) (joined s before)
+        (let z = joined-size (room (x .line .held) (length hold)) t before s d in omega (arith, z, h)))
+
+-- the buffer is as long as it was
+pub scrapHolds : S.ScrapHolds
+scrapHolds x hold scrap zero time = unfold through in (refl, λ f. f)
+scrapHolds x hold scrap (suc k) time = by (x .line .dropping) refl
+  where
+    by : (c : Bool) → x .line .dropping ≡ c
+        → (length (scrapped x hold scrap (suc k) time .hold) ≡ length hold)
+        × (x .line .held ≤ length hold → scrapped x hold scrap (suc k) time .heard .line .held ≤ length hold)
+    by true d = rw (scrapDropped x hold scrap k time d) (refl, λ f. f)
+    by false d = let h = ends-holds scrap time k (opens x hold) d in (h .0, λ f. rw (← h .0) (h .1))
 
 -- without room something is due
 no-room : (s : List ℕ) → isWaits (look 0 0 s) ≡ false
@@ -472,20 +481,20 @@ unfolding look exceeds isWaits
 no-room s = rw (two (isSized s && ltb 0 (fullLength s)) (ltb 0 0))
 
 -- the room stays while bytes wait
-module _ (x : Lined) (hold a : List ℕ) (t : ℕ) (S : List (Event × ℕ)) (d : x .line .dropping ≡ false) (e : scrapped x hold a (enough x a) t .heard .line .dropping ≡ false) where
+module _ (x : Lined) (hold a : List ℕ) (n t : ℕ) (h : length (behind (x .line .held) hold a) ≤ n) (S : List (Event × ℕ)) (d : x .line .dropping ≡ false) (e : scrapped x hold a (suc n) t .heard .line .dropping ≡ false) where
   abbrev there : Hearing
-  there = scrapped x hold a (enough x a) t
+  there = scrapped x hold a (suc n) t
 
   still-waits : isWaits (look (room (x .line .held) (length hold)) 0 (take (there .heard .line .held) (there .hold))) ≡ true
   unfolding rests
-  still-waits = rw e at (rests-after x hold a t S d)
+  still-waits = rw e at (rests-after x hold a n t h S d)
 
   room-stays : room (there .heard .line .held) (length (there .hold)) ≡ room (x .line .held) (length hold)
   unfolding room
   room-stays =
-      let h = ends-holds a t (x .line .held + length a) (opens x hold) d in
-      cond-no (ltb (length (there .hold)) (there .heard .line .held)) 0 (length (there .hold)) (le-ltb (length (there .hold)) (there .heard .line .held) (h .1))
-      ∙ h .0 ∙ by (ltb (length hold) (x .line .held)) refl
+      let k = ends-holds a t n (opens x hold) d in
+      cond-no (ltb (length (there .hold)) (there .heard .line .held)) 0 (length (there .hold)) (le-ltb (length (there .hold)) (there .heard .line .held) (k .1))
+      ∙ k .0 ∙ by (ltb (length hold) (x .line .held)) refl
     where
       by : (b : Bool) → ltb (length hold) (x .line .held) ≡ b → length hold ≡ cond b 0 (length hold)
       by true f =
@@ -493,25 +502,40 @@ module _ (x : Lined) (hold a : List ℕ) (t : ℕ) (S : List (Event × ℕ)) (d 
           (unfold room in cond-yes (ltb (length hold) (x .line .held)) 0 (length hold) f) ∙ no-room (take (there .heard .line .held) (there .hold))))
       by false f = refl
 
-after-size : (r t : ℕ) (b : List ℕ) (l : Seen) → size r t (joined b l) ≤ suc (length (l .waiting ++ b))
+after-size : (r t : ℕ) (b : List ℕ) (l : View) → size r t (joined b l) ≤ suc (length (l .waiting ++ b))
 unfolding joined
 after-size r t b l = any-size r t (joined b l)
 
+-- no more bytes wait than waited in the buffer and came
+waits-most : (x : Lined) (hold s : List ℕ) (k t : ℕ)
+    → length (take (scrapped x hold s k t .heard .line .held) (scrapped x hold s k t .hold)) ≤ length (take (x .line .held) hold) + length s
+waits-most x hold s k t =
+    let w = scrapWithin x hold s k t in
+    let e = scrapHolds x hold s k t .0 in
+    omega (arith, w .1, w .2, e, length-take (x .line .held) hold, length-take (scrapped x hold s k t .heard .line .held) (scrapped x hold s k t .hold))
+
 -- two scraps are one piece
-module _ (x : Lined) (hold a b : List ℕ) (t : ℕ) (S : List (Event × ℕ)) where
+module _ (x : Lined) (hold a b : List ℕ) (n t : ℕ) (h : length (behind (x .line .held) hold (a ++ b)) ≤ n) (S : List (Event × ℕ)) where
   abbrev first : Hearing
-  first = scrapped x hold a (enough x a) t
+  first = scrapped x hold a (suc n) t
 
   abbrev S′ : List (Event × ℕ)
-  S′ = S ++ scrapSaid x hold a (enough x a) t
+  S′ = S ++ scrapSaid x hold a (suc n) t
 
   abbrev second : Hearing
-  second = scrapped (linedIn first) (first .hold) b (enough (linedIn first) b) t
+  second = scrapped (linedIn first) (first .hold) b (suc n) t
 
   abbrev at-once : Hearing
-  at-once = scrapped x hold (a ++ b) (enough x (a ++ b)) t
+  at-once = scrapped x hold (a ++ b) (suc n) t
 
-  two-scraps : seen (S′ ++ scrapSaid (linedIn first) (first .hold) b (enough (linedIn first) b) t) second ≡ seen (S ++ scrapSaid x hold (a ++ b) (enough x (a ++ b)) t) at-once
+  enough-first : length (behind (x .line .held) hold a) ≤ n
+  enough-first = omega (arith, h, length-append (take (x .line .held) hold) a, length-append (take (x .line .held) hold) (a ++ b), length-append a b)
+
+  pub enough-second : length (behind (first .heard .line .held) (first .hold) b) ≤ n
+  enough-second =
+      omega (arith, h, length-append (take (x .line .held) hold) (a ++ b), length-append a b, length-append (take (first .heard .line .held) (first .hold)) b, waits-most x hold a (suc n) t)
+
+  two-scraps : view (S′ ++ scrapSaid (linedIn first) (first .hold) b (suc n) t) second ≡ view (S ++ scrapSaid x hold (a ++ b) (suc n) t) at-once
   two-scraps = by (x .line .dropping) refl
     where
       r : ℕ
@@ -520,8 +544,8 @@ module _ (x : Lined) (hold a b : List ℕ) (t : ℕ) (S : List (Event × ℕ)) w
       r₂ : ℕ
       r₂ = room (first .heard .line .held) (length (first .hold))
 
-      n : ℕ
-      n = suc (length (take (x .line .held) hold ++ a))
+      i : ℕ
+      i = suc (length (take (x .line .held) hold ++ a))
 
       k : ℕ
       k = suc (length (take (first .heard .line .held) (first .hold) ++ b))
@@ -529,43 +553,46 @@ module _ (x : Lined) (hold a b : List ℕ) (t : ℕ) (S : List (Event × ℕ)) w
       m : ℕ
       m = suc (length (take (x .line .held) hold ++ (a ++ b)))
 
-      l : Seen
-      l = seen S (opens x hold)
+      l : View
+      l = view S (opens x hold)
 
-      l′ : Seen
-      l′ = seen S′ first
+      l′ : View
+      l′ = view S′ first
 
       next : (c : Bool) → first .heard .line .dropping ≡ c → x .line .dropping ≡ false → later r₂ t b k l′ ≡ later r t b k l′
       next true e d = later-off r₂ t b k l′ e ∙ sym (later-off r t b k l′ e)
-      next false e d = ap (λ (q : ℕ). later q t b k l′) (room-stays x hold a t S d e)
+      next false e d = ap (λ (q : ℕ). later q t b k l′) (room-stays x hold a n t enough-first S d e)
 
-      by : (c : Bool) → x .line .dropping ≡ c → seen (S′ ++ scrapSaid (linedIn first) (first .hold) b (enough (linedIn first) b) t) second ≡ seen (S ++ scrapSaid x hold (a ++ b) (enough x (a ++ b)) t) at-once
+      by : (c : Bool) → x .line .dropping ≡ c → view (S′ ++ scrapSaid (linedIn first) (first .hold) b (suc n) t) second ≡ view (S ++ scrapSaid x hold (a ++ b) (suc n) t) at-once
       by true d =
-          let f : l′ ≡ l = call-off x hold a t S d in
-          let e : first .heard .line .dropping ≡ true = ap (λ (z : Seen). z .dropping) f ∙ d in
-          call-off (linedIn first) (first .hold) b t S′ e ∙ f ∙ sym (call-off x hold (a ++ b) t S d)
+          let f : l′ ≡ l = call-off x hold a n t enough-first S d in
+          let e : first .heard .line .dropping ≡ true = ap (λ (z : View). z .dropping) f ∙ d in
+          call-off (linedIn first) (first .hold) b n t enough-second S′ e ∙ f ∙ sym (call-off x hold (a ++ b) n t h S d)
       by false d =
-          let f : l′ ≡ later r t a n l = call-is x hold a t S n (omega arith) in
-          let g : l′ ≡ pump r t n (joined a l) = f ∙ later-on r t a n l d in
+          let f : l′ ≡ later r t a i l = call-is x hold a n t enough-first S i (omega arith) in
+          let g : l′ ≡ pump r t i (joined a l) = f ∙ later-on r t a i l d in
           let p = joined-size r t l a d in
           let q : size r t (joined b (joined a l)) ≤ m = rw (joined-twice a b l) (let z = joined-size r t l (a ++ b) d in omega (arith, z)) in
-          let u : size r t (joined b (pump r t n (joined a l))) ≤ k = rw (← g) (after-size r t b l′) in
-          call-is (linedIn first) (first .hold) b t S′ k (omega arith)
+          let u : size r t (joined b (pump r t i (joined a l))) ≤ k = rw (← g) (after-size r t b l′) in
+          call-is (linedIn first) (first .hold) b n t enough-second S′ k (omega arith)
           ∙ next (first .heard .line .dropping) refl d
           ∙ ap (later r t b k) g
-          ∙ sym (cut r t b n m k (joined a l) (unfold joined in d) (omega (arith, p)) q u)
+          ∙ sym (cut r t b i m k (joined a l) (unfold joined in d) (omega (arith, p)) q u)
           ∙ ap (pump r t m) (joined-twice a b l)
-          ∙ sym (call-is x hold (a ++ b) t S m (omega arith) ∙ later-on r t (a ++ b) m l d)
+          ∙ sym (call-is x hold (a ++ b) n t h S m (omega arith) ∙ later-on r t (a ++ b) m l d)
 
-any-scraps : (s : List ℕ) (ss : List (List ℕ)) (x : Lined) (hold : List ℕ) (time : ℕ) (S : List (Event × ℕ)) → scraps S x hold (s ∷ ss) time ≡ scraps S x hold (onePiece (s ∷ ss) ∷ []) time
+any-scraps : (s : List ℕ) (ss : List (List ℕ)) (x : Lined) (hold : List ℕ) (n time : ℕ) (S : List (Event × ℕ)) → length (behind (x .line .held) hold (onePiece (s ∷ ss))) ≤ n
+    → scraps S x hold (s ∷ ss) (suc n) time ≡ scraps S x hold (onePiece (s ∷ ss) ∷ []) (suc n) time
 unfolding scraps onePiece
-any-scraps s [] x hold time S = ap (λ (b : List ℕ). scraps S x hold (b ∷ []) time) (sym (append-nil s))
-any-scraps s (b ∷ bs) x hold time S =
-    let y : Hearing = scrapped x hold s (enough x s) time in
-    any-scraps b bs (linedIn y) (y .hold) time (S ++ scrapSaid x hold s (enough x s) time) ∙ two-scraps x hold s (onePiece (b ∷ bs)) time S
+any-scraps s [] x hold n time S h = ap (λ (b : List ℕ). scraps S x hold (b ∷ []) (suc n) time) (sym (append-nil s))
+any-scraps s (b ∷ bs) x hold n time S h =
+    let y : Hearing = scrapped x hold s (suc n) time in
+    any-scraps b bs (linedIn y) (y .hold) n time (S ++ scrapSaid x hold s (suc n) time) (enough-second x hold s (onePiece (b ∷ bs)) n time h S)
+    ∙ two-scraps x hold s (onePiece (b ∷ bs)) n time h S
 
 pub anyScraps : S.AnyScraps
-anyScraps x hold s ss time = any-scraps s ss x hold time []
+anyScraps x hold s ss zero time h = absurd (let z : ⊥ = omega (arith, h) in z)
+anyScraps x hold s ss (suc n) time h = any-scraps s ss x hold n time [] (omega (arith, h))
 
 -- more units allowed than were accepted change nothing, and meet nothing
 module _ (s : List ℕ) (t b : ℕ) where
@@ -590,20 +617,20 @@ module _ (s : List ℕ) (t b : ℕ) where
       by ih false o = rw more (units-step (a + b) y false o ∙ sym (units-step a y false o))
 
 pub moreAllowed : S.MoreAllowed
-moreAllowed x hold scrap allowed time h = by (x .line .dropping) refl
+moreAllowed x hold scrap a b time g h = (same a g .0 ∙ sym (same b h .0), same a g .1 ∙ sym (same b h .1))
   where
-    fewer : (c : Bool) → x .line .dropping ≡ c → scrapped x hold scrap (enough x scrap) time .heard .accepted < enough x scrap
-    fewer true d = omega (arith, ap (λ (z : Hearing). z .heard .accepted) (scrapDropped x hold scrap (x .line .held + length scrap) time d))
-    fewer false d = never-reached x hold scrap time d
+    n : ℕ
+    n = length (behind (x .line .held) hold scrap)
 
-    more : allowed ≡ enough x scrap + (allowed - enough x scrap)
-    more = omega arith
+    fewer : (c : Bool) → x .line .dropping ≡ c → scrapped x hold scrap (suc n) time .heard .accepted < suc n
+    fewer true d = omega (arith, ap (λ (z : Hearing). z .heard .accepted) (scrapDropped x hold scrap n time d))
+    fewer false d = never-reached x hold scrap n time (omega arith) d
 
-    by : (c : Bool) → x .line .dropping ≡ c
-        → (scrapped x hold scrap allowed time ≡ scrapped x hold scrap (enough x scrap) time)
-        × (scrapEvents x hold scrap allowed time ≡ scrapEvents x hold scrap (enough x scrap) time)
-    by c d = (
-      ap (λ (k : ℕ). scrapped x hold scrap k time) more ∙ scrapStops x hold scrap (enough x scrap) (allowed - enough x scrap) time (fewer c d),
-      ap (λ (k : ℕ). scrapEvents x hold scrap k time) more
-          ∙ units-ended scrap time (allowed - enough x scrap) (enough x scrap) (opens x hold) (let f = fewer c d in omega (arith, f)),
-    )
+    same : (k : ℕ) → n < k
+        → (scrapped x hold scrap k time ≡ scrapped x hold scrap (suc n) time) × (scrapEvents x hold scrap k time ≡ scrapEvents x hold scrap (suc n) time)
+    same k l =
+        let more : k ≡ suc n + (k - suc n) = omega (arith, l) in
+        let f = fewer (x .line .dropping) refl in (
+          ap (λ (i : ℕ). scrapped x hold scrap i time) more ∙ scrapStops x hold scrap (suc n) (k - suc n) time f,
+          ap (λ (i : ℕ). scrapEvents x hold scrap i time) more ∙ units-ended scrap time (k - suc n) (suc n) (opens x hold) (omega (arith, f)),
+        )

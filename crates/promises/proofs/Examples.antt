@@ -396,7 +396,7 @@ pub scrapRefusals-hold : wrong Torn.refusals ≡ []
 unfolding computes
 scrapRefusals-hold = refl
 
-pub scrapConnects-hold : wrong Torn.connects ≡ []
+pub scrapConnects-hold : wrong Torn.reconnects ≡ []
 unfolding computes
 scrapConnects-hold = refl
 

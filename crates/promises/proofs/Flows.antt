@@ -16,7 +16,7 @@ use Rattle.lines.specs.declared.Look.the-variants.{Waits, TooLong, Finished}
 use Rattle.lines.proofs.Fronts.{look-finished, look-stays}
 use Rattle.lines.proofs.Cases.{cond-yes, cond-no}
 use Rattle.promises.specs.Runs.{after, answerOf}
-use Rattle.promises.specs.Scraps.{Seen}
+use Rattle.promises.specs.Scraps.{View}
 
 unfoldable pub isWaits : Look → Bool
 isWaits Waits = true
@@ -35,7 +35,7 @@ sizeOf TooLong = 0
 sizeOf (Finished n) = n
 
 -- an event more, with what is left behind it: a refusal leaves nothing, and drops what comes
-unfoldable pub told : Seen → Event → List ℕ → Seen
+unfoldable pub told : View → Event → List ℕ → View
 told l e rest = record {
   said = l .said ++ ((e, answerOf (l .state) e) ∷ []);
   state = after (l .state) e;
@@ -43,13 +43,13 @@ told l e rest = record {
   dropping = not (accepted (answerOf (l .state) e));
 }
 
-unfoldable pub joined : List ℕ → Seen → Seen
+unfoldable pub joined : List ℕ → View → View
 joined b l = record { said = l .said; state = l .state; waiting = l .waiting ++ b; dropping = l .dropping }
 
-abbrev yes? : Seen → Event → Bool
+abbrev yes? : View → Event → Bool
 yes? l e = accepted (answerOf (l .state) e)
 
-module _ (l : Seen) (e : Event) (r b : List ℕ) where
+module _ (l : View) (e : Event) (r b : List ℕ) where
   told-on : yes? l e ≡ true → told l e (r ++ b) ≡ joined b (told l e r)
   unfolding told joined
   told-on h = rw h
@@ -59,33 +59,33 @@ module _ (l : Seen) (e : Event) (r b : List ℕ) where
   told-off h = rw h
 
 module _ (r t : ℕ) where
-  abbrev pub looks : Seen → Look
+  abbrev pub looks : View → Look
   looks l = look r 0 (l .waiting)
 
-  abbrev pub event : Seen → Event
+  abbrev pub event : View → Event
   event l = eventOf (looks l) (l .waiting) t
 
-  unfoldable pub answered : Seen → Seen
+  unfoldable pub answered : View → View
   answered l = told l (event l) (drop (sizeOf (looks l)) (l .waiting))
 
   -- nothing is due
-  unfoldable pub rests : Seen → Bool
+  unfoldable pub rests : View → Bool
   rests l = l .dropping || isWaits (looks l)
 
-  unfoldable pub pump : ℕ → Seen → Seen
+  unfoldable pub pump : ℕ → View → View
   pump zero l = l
   pump (suc n) l = cond (rests l) l (pump n (answered l))
 
-  pub pump-rest : (n : ℕ) (l : Seen) → rests l ≡ true → pump n l ≡ l
+  pub pump-rest : (n : ℕ) (l : View) → rests l ≡ true → pump n l ≡ l
   unfolding pump
   pump-rest zero l h = refl
   pump-rest (suc n) l h = rw h
 
-  pub pump-go : (n : ℕ) (l : Seen) → rests l ≡ false → pump (suc n) l ≡ pump n (answered l)
+  pub pump-go : (n : ℕ) (l : View) → rests l ≡ false → pump (suc n) l ≡ pump n (answered l)
   unfolding pump
   pump-go n l h = rw h
 
-  busy : (l : Seen) → rests l ≡ false → (l .dropping ≡ false) × (isWaits (looks l) ≡ false)
+  busy : (l : View) → rests l ≡ false → (l .dropping ≡ false) × (isWaits (looks l) ≡ false)
   unfolding rests
   busy l = go (l .dropping) (isWaits (looks l))
     where
@@ -94,7 +94,7 @@ module _ (r t : ℕ) where
       go false b h = (refl, h)
 
   -- what is left to do: nothing after a refusal
-  unfoldable pub size : Seen → ℕ
+  unfoldable pub size : View → ℕ
   size l = cond (l .dropping) 0 (suc (length (l .waiting)))
 
   size-fits : (w : List ℕ) (v : Look) → look r 0 w ≡ v → sizeOf v ≤ length w
@@ -110,7 +110,7 @@ module _ (r t : ℕ) where
   taken-off s w TooLong e m h = absurd (true≢false (sym h ∙ overrun-not s t))
   taken-off s w (Finished n) e m h = let f = look-finished r 0 w n e in simp length-drop (omega (arith, f .2, f .3))
 
-  smaller : (l : Seen) → rests l ≡ false → size (answered l) < size l
+  smaller : (l : View) → rests l ≡ false → size (answered l) < size l
   unfolding size answered told
   smaller l h =
       let b = busy l h in
@@ -120,7 +120,7 @@ module _ (r t : ℕ) where
       go true e = taken-off (l .state) (l .waiting) (looks l) refl (busy l h .1) e
       go false e = omega arith
 
-  none-left : (l : Seen) → size l ≤ 0 → rests l ≡ true
+  none-left : (l : View) → size l ≤ 0 → rests l ≡ true
   unfolding size rests
   none-left l = go (l .dropping)
     where
@@ -129,7 +129,7 @@ module _ (r t : ℕ) where
       go false h = absurd (let z : suc (length (l .waiting)) ≤ 0 = h in omega arith)
 
   -- any number of turns that suffices does the same, and comes to rest
-  pub pump-same : (n m : ℕ) (l : Seen) → size l ≤ n → size l ≤ m → pump n l ≡ pump m l
+  pub pump-same : (n m : ℕ) (l : View) → size l ≤ n → size l ≤ m → pump n l ≡ pump m l
   pump-same zero m l p q = pump-rest zero l (none-left l p) ∙ sym (pump-rest m l (none-left l p))
   pump-same (suc n) zero l p q = pump-rest (suc n) l (none-left l q) ∙ sym (pump-rest zero l (none-left l q))
   pump-same (suc n) (suc m) l p q = go (rests l) refl (pump-same n m (answered l))
@@ -138,7 +138,7 @@ module _ (r t : ℕ) where
       go true e f = pump-rest (suc n) l e ∙ sym (pump-rest (suc m) l e)
       go false e f = let k = smaller l e in pump-go n l e ∙ f (omega arith) (omega arith) ∙ sym (pump-go m l e)
 
-  pub settles : (n : ℕ) (l : Seen) → size l ≤ n → rests (pump n l) ≡ true
+  pub settles : (n : ℕ) (l : View) → size l ≤ n → rests (pump n l) ≡ true
   settles zero l p = rw (pump-rest zero l (none-left l p)) (none-left l p)
   settles (suc n) l p = go (rests l) refl (settles n (answered l))
     where
@@ -147,7 +147,7 @@ module _ (r t : ℕ) where
       go false e f = let k = smaller l e in rw (pump-go n l e) (f (omega arith))
 
   module _ (b : List ℕ) where
-    stays : (l : Seen) → isWaits (looks l) ≡ false → looks (joined b l) ≡ looks l
+    stays : (l : View) → isWaits (looks l) ≡ false → looks (joined b l) ≡ looks l
     unfolding joined isWaits
     stays l h = look-stays r 0 (l .waiting) b (looks l) refl (λ e. absurd (true≢false (sym (ap isWaits e) ∙ h)))
 
@@ -158,13 +158,13 @@ module _ (r t : ℕ) where
     event-stays w (Finished n) k = ap (λ (u : List ℕ). Arrive u t) (take-append-le n w b k)
 
     -- bytes that follow do not change what is due now
-    joined-rests : (l : Seen) → rests l ≡ false → rests (joined b l) ≡ false
+    joined-rests : (l : View) → rests l ≡ false → rests (joined b l) ≡ false
     joined-rests l h = let k = busy l h in go k (stays l (k .1))
       where
         go : (l .dropping ≡ false) × (isWaits (looks l) ≡ false) → looks (joined b l) ≡ looks l → rests (joined b l) ≡ false
         go k e = unfold rests joined in (rw (k .0) (ap isWaits (unfold joined in e) ∙ k .1))
 
-    joined-told : (l : Seen) → rests l ≡ false → answered (joined b l) ≡ told l (event l) (drop (sizeOf (looks l)) (l .waiting) ++ b)
+    joined-told : (l : View) → rests l ≡ false → answered (joined b l) ≡ told l (event l) (drop (sizeOf (looks l)) (l .waiting) ++ b)
     unfolding answered joined told
     joined-told l h =
         let k = busy l h in
@@ -172,39 +172,39 @@ module _ (r t : ℕ) where
         let e : look r 0 (l .waiting ++ b) ≡ look r 0 (l .waiting) = stays l (k .1) in
         rw (e, event-stays (l .waiting) (looks l) f, drop-append-le (sizeOf (looks l)) (l .waiting) b f)
 
-    joined-on : (l : Seen) → rests l ≡ false → yes? l (event l) ≡ true → answered (joined b l) ≡ joined b (answered l)
+    joined-on : (l : View) → rests l ≡ false → yes? l (event l) ≡ true → answered (joined b l) ≡ joined b (answered l)
     unfolding answered
     joined-on l h e = joined-told l h ∙ told-on l (event l) (drop (sizeOf (looks l)) (l .waiting)) b e
 
-    joined-off : (l : Seen) → rests l ≡ false → yes? l (event l) ≡ false → answered (joined b l) ≡ answered l
+    joined-off : (l : View) → rests l ≡ false → yes? l (event l) ≡ false → answered (joined b l) ≡ answered l
     unfolding answered
     joined-off l h e = joined-told l h ∙ told-off l (event l) (drop (sizeOf (looks l)) (l .waiting)) b e
 
     -- what comes after, unless it is dropped
-    unfoldable pub later : ℕ → Seen → Seen
+    unfoldable pub later : ℕ → View → View
     later k l = cond (l .dropping) l (pump k (joined b l))
 
-    dropping-of : (l : Seen) (a : Bool) → yes? l (event l) ≡ a → answered l .dropping ≡ not a
+    dropping-of : (l : View) (a : Bool) → yes? l (event l) ≡ a → answered l .dropping ≡ not a
     unfolding answered told
     dropping-of l a e = rw e
 
-    pub dropped-rests : (l : Seen) → l .dropping ≡ true → rests l ≡ true
+    pub dropped-rests : (l : View) → l .dropping ≡ true → rests l ≡ true
     unfolding rests
     dropped-rests l e = rw e
 
-    pub later-off : (k : ℕ) (l : Seen) → l .dropping ≡ true → later k l ≡ l
+    pub later-off : (k : ℕ) (l : View) → l .dropping ≡ true → later k l ≡ l
     unfolding later
     later-off k l e = cond-yes (l .dropping) _ _ e
 
-    pub later-on : (k : ℕ) (l : Seen) → l .dropping ≡ false → later k l ≡ pump k (joined b l)
+    pub later-on : (k : ℕ) (l : View) → l .dropping ≡ false → later k l ≡ pump k (joined b l)
     unfolding later
     later-on k l e = cond-no (l .dropping) _ _ e
 
-    some-left : (l : Seen) → l .dropping ≡ false → size l ≤ 0 → ⊥
+    some-left : (l : View) → l .dropping ≡ false → size l ≤ 0 → ⊥
     unfolding size
     some-left l d p = let z : suc (length (l .waiting)) ≤ 0 = rw d at p in omega arith
 
-    pub cut : (n m k : ℕ) (l : Seen) → l .dropping ≡ false → size l ≤ n → size (joined b l) ≤ m → size (joined b (pump n l)) ≤ k
+    pub cut : (n m k : ℕ) (l : View) → l .dropping ≡ false → size l ≤ n → size (joined b l) ≤ m → size (joined b (pump n l)) ≤ k
         → pump m (joined b l) ≡ later k (pump n l)
     cut zero m k l d p q u = absurd (some-left l d p)
     cut (suc n) m k l d p q u = go (rests l) refl (yes? l (event l)) refl m q (λ m′. cut n m′ k (answered l))
@@ -233,11 +233,11 @@ module _ (r t : ℕ) where
             let z : pump (suc n) l ≡ answered l = pump-go n l e ∙ pump-rest n (answered l) w in
             pump-go m (joined b l) (joined-rests l e) ∙ ap (pump m) j ∙ pump-rest m (answered l) w ∙ sym (later-off k (answered l) o) ∙ ap (later k) (sym z)
 
-  pub joined-size : (l : Seen) (b : List ℕ) → l .dropping ≡ false → size (joined b l) ≡ suc (length (l .waiting ++ b))
+  pub joined-size : (l : View) (b : List ℕ) → l .dropping ≡ false → size (joined b l) ≡ suc (length (l .waiting ++ b))
   unfolding size joined
   joined-size l b d = cond-no (l .dropping) 0 (suc (length (l .waiting ++ b))) d
 
-  pub any-size : (l : Seen) → size l ≤ suc (length (l .waiting))
+  pub any-size : (l : View) → size l ≤ suc (length (l .waiting))
   unfolding size
   any-size l = go (l .dropping)
     where
@@ -246,6 +246,6 @@ module _ (r t : ℕ) where
       go false = omega arith
 
 -- more bytes, and more again
-pub joined-twice : (a b : List ℕ) (l : Seen) → joined b (joined a l) ≡ joined (a ++ b) l
+pub joined-twice : (a b : List ℕ) (l : View) → joined b (joined a l) ≡ joined (a ++ b) l
 unfolding joined
 joined-twice a b l = rw (append-assoc (l .waiting) a b)

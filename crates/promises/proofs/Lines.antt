@@ -2,7 +2,7 @@
 use Prim.Native.Nat.{ℕ, zero, suc, _+_, _≤_}
 use native.Mathlib.Omega.{arith}
 use mathlib.Core.Path.{_≡_, refl, sym, ap, _∙_, subst}
-use mathlib.Core.Bool.{Bool, true, false, cond, not, _&&_, true≢false}
+use mathlib.Core.Bool.{Bool, true, false, cond, not, _&&_, _||_, true≢false}
 use mathlib.Core.List.{List, [], _∷_, _++_}
 use lib.ListN.{length, take, drop}
 use lib.Dec.{T, ltb, leb, eqb}
@@ -30,19 +30,20 @@ use Rattle.lines.specs.declared.Look.the-variants.{Waits, TooLong, Finished}
 use Rattle.lines.specs.declared.Line.{Line}
 use Rattle.lines.specs.declared.Linked.{Linked}
 use Rattle.promises.specs.Refusals.{answersTo, ending, feedRefused}
-use Rattle.promises.specs.Runs.{zeroed, start, after, run, trace, endOf, tale, isGreen, green, replay}
+use Rattle.promises.specs.Runs.{zeroed, start, after, run, answerOf, trace, endOf, tale, isGreen, green, replay}
 use Rattle.promises.specs.Ledger.{upTo, lastOf}
 use Rattle.promises.specs.Frames.{answersIn}
 use Rattle.promises.specs.NoHole.{kept}
-use Rattle.promises.specs.Demands.{Bytes, handsBytes, connects}
+use Rattle.promises.specs.Demands.{Bytes, handsBytes, isConnect, connects}
 use Rattle.promises.specs.Scraps as S
-use Rattle.promises.specs.Scraps.{Lined, stateOn, linedIn, opens, scrapped, due, meets, units, scrapEvents, linked, LineAct, Links, Hears, afterLine, runLine, lineEvents, writtenLine, newLine, lineBytes, onlyScraps}
+use Rattle.promises.specs.Scraps.{Lined, stateOn, linedIn, opens, scrapped, dueEvents, turnEvents, units, scrapEvents, linked, LineAct, Links, Hears, afterLine, runLine, lineEvents, writtenLine, newLine, lineBytes, refusedSince, NoConnect}
 use Rattle.promises.proofs.Demands as D
 use Rattle.promises.proofs.Soundness.{bytes-two}
 use Rattle.promises.proofs.Morning.{run-append}
 use Rattle.promises.proofs.NoHole.{noneLeftOut}
 use Rattle.promises.proofs.Frames.{dark-after}
-use Rattle.promises.proofs.Scraps.{scrapTells, scrapDropped}
+use Rattle.lines.proofs.Courses.{through-on, through-ends}
+use Rattle.promises.proofs.Scraps.{Turn, silently, with-event, at, TurnAt, QuietAt, SpokeAt, turnAt, quiet-off, quiet-drops, spoke-goes, spoke-state, spoke-taken, spoke-refused, units-quiet, units-on, units-off, scrapTells, scrapDropped}
 
 -- a connect writes no table
 act-tables : (a : Answer) (link : Link) (time : ℕ) (s : State) → act a time (News.Linked link) s .tables ≡ s .tables
@@ -136,14 +137,14 @@ linesGreen limit n acts time =
     withLines limit n (λ es s. isGreen s time ≡ green (tale limit n es) (start limit n .feed .limit) time) (λ es. D.green limit n es time) acts
 
 -- the events of a scrap are of its bytes
-due-bytes : (v : Look) (s : List ℕ) (t : ℕ) → T (bytesOnly s) → Bytes (due v s t)
-unfolding due all handsBytes
+due-bytes : (v : Look) (s : List ℕ) (t : ℕ) → T (bytesOnly s) → Bytes (dueEvents v s t)
+unfolding dueEvents all handsBytes
 due-bytes Waits s t h = tt
 due-bytes TooLong s t h = tt
 due-bytes (Finished n) s t h = pair (bytesOnly (take n s)) true (is-T _ (all-take (λ b. ltb b 256) n s (of-T _ h))) tt
 
-meets-bytes : (l : Line) (hold scrap : List ℕ) (t : ℕ) → T (bytesOnly hold) → T (bytesOnly scrap) → Bytes (meets l hold scrap t)
-unfolding meets all
+meets-bytes : (l : Line) (hold scrap : List ℕ) (t : ℕ) → T (bytesOnly hold) → T (bytesOnly scrap) → Bytes (turnEvents l hold scrap t)
+unfolding turnEvents all
 meets-bytes l hold scrap t h k =
     split Bytes (l .dropping) _ _ (λ e. tt)
     (λ e. due-bytes _ (behind (l .held) hold scrap) t
@@ -192,7 +193,7 @@ units-bytes zero s t y h b = tt
 units-bytes (suc k) s t y h b =
     let d = bytes-drop (y .heard .used) s b in
     let o = onward-bytes s t y h d in
-    bytes-two (meets (y .heard .line) (y .hold) (drop (y .heard .used) s) t) _ (meets-bytes (y .heard .line) (y .hold) (drop (y .heard .used) s) t h d)
+    bytes-two (turnEvents (y .heard .line) (y .hold) (drop (y .heard .used) s) t) _ (meets-bytes (y .heard .line) (y .hold) (drop (y .heard .used) s) t h d)
     (split Bytes (goesOn (onward s t y .heard)) _ _ (λ e. units-bytes k s t (onward s t y) o b) (λ e. tt))
 
 act-bytes : (x : Lined) (a : LineAct) → T (lineBytes a) → Bytes (lineEvents x a)
@@ -216,7 +217,7 @@ linesSound limit n acts h =
     rw w (D.sound limit n es (lineWrittenBytes (newLine limit n) acts h) .0, D.stripsSound limit n es .0)
 
 -- the morning
-runs-on : (acts more : List LineAct) (x : Lined) → runLine x (acts ++ more) ≡ runLine (runLine x acts) more
+pub runs-on : (acts more : List LineAct) (x : Lined) → runLine x (acts ++ more) ≡ runLine (runLine x acts) more
 unfolding runLine
 runs-on [] more x = refl
 runs-on (a ∷ acts) more x = runs-on acts more (afterLine x a)
@@ -251,29 +252,247 @@ lineStaysDark limit n acts hold scrap allowed moment more time h c =
     ∙ ap (λ (s : State). isGreen s time) (lineWritten (linedIn lost) more ∙ ap (λ (s : State). run s rest) gone)
     ∙ dark-after limit n before es rest time (subst (λ (k : ℕ). T (oneOf k ending)) answers h) (subst (λ (s : State). T (all (λ p. not (connects p)) (trace s rest))) gone c)
 
--- a line that drops
-pub hears-dropped : (x : Lined) (hold scrap : List ℕ) (allowed time : ℕ) → x .line .dropping ≡ true → linedIn (scrapped x hold scrap allowed time) ≡ x
+-- what drops, by events and answers
+arrived : (b : Bool) (e : Event) (n : ℕ) (c : Bool) → b ≡ false → isConnect e ≡ false → accepted n ≡ c → cond (isConnect e) (b && not (accepted n)) (b || not (accepted n)) ≡ not c
+arrived b e n c p q r = rw (p, q, r)
+
+module _ (s : List ℕ) (t : ℕ) where
+  abbrev DropsAt : ℕ → Hearing → Type 0
+  DropsAt k y = through k s t y .heard .line .dropping ≡ refusedSince (y .heard .line .dropping) (trace (at s t y) (units k s t y))
+
+  module _ (k : ℕ) (y : Hearing) where
+    drops-quiet : QuietAt s t y → DropsAt (suc k) y
+    unfolding refusedSince trace
+    drops-quiet q =
+        ap (λ (z : Hearing). z .heard .line .dropping) (through-ends s t y k (quiet-off s t y q)) ∙ quiet-drops s t y q
+        ∙ sym (ap (λ (es : List Event). refusedSince (y .heard .line .dropping) (trace (at s t y) es)) (units-quiet s t k y q))
+
+    drops-spoke : (e : Event) → SpokeAt s t y e → DropsAt k (onward s t y) → (b : Bool) → accepted (answerOf (at s t y) e) ≡ b → DropsAt (suc k) y
+    unfolding refusedSince trace
+    drops-spoke e p rest true a =
+        let o = spoke-goes s t y e p ∙ a in
+        let f = spoke-taken s t y e p a ∙ sym (arrived (y .heard .line .dropping) e (answerOf (at s t y) e) true (p .going) (p .arrival) a) in
+        ap (λ (z : Hearing). z .heard .line .dropping) (through-on s t y k o) ∙ rest
+        ∙ (λ i. refusedSince (f i) (trace (spoke-state s t y e p i) (units k s t (onward s t y))))
+        ∙ sym (ap (λ (es : List Event). refusedSince (y .heard .line .dropping) (trace (at s t y) es)) (units-on s t k y e p o))
+    drops-spoke e p rest false a =
+        let o = spoke-goes s t y e p ∙ a in
+        ap (λ (z : Hearing). z .heard .line .dropping) (through-ends s t y k o) ∙ spoke-refused s t y e p a
+        ∙ sym (arrived (y .heard .line .dropping) e (answerOf (at s t y) e) false (p .going) (p .arrival) a)
+        ∙ sym (ap (λ (es : List Event). refusedSince (y .heard .line .dropping) (trace (at s t y) es)) (units-off s t k y e p o))
+
+    drops-turn : TurnAt s t y → DropsAt k (onward s t y) → DropsAt (suc k) y
+    drops-turn (silently q) rest = drops-quiet q
+    drops-turn (with-event e p) rest = drops-spoke e p rest (accepted (answerOf (at s t y) e)) refl
+
+  scrap-drops : (k : ℕ) (y : Hearing) → DropsAt k y
+  scrap-drops zero y = unfold through units trace refusedSince in refl
+  scrap-drops (suc k) y = drops-turn k y (turnAt s t y) (scrap-drops k (onward s t y))
+
+since-two : (p q : List (Event × ℕ)) (b : Bool) → refusedSince b (p ++ q) ≡ refusedSince (refusedSince b p) q
+unfolding refusedSince
+since-two [] q b = refl
+since-two (a ∷ p) q b = since-two p q (cond (isConnect (a .0)) (b && not (accepted (a .1))) (b || not (accepted (a .1))))
+
+trace-two : (es fs : List Event) (s : State) → trace s (es ++ fs) ≡ trace s es ++ trace (run s es) fs
+unfolding trace run
+trace-two [] fs s = refl
+trace-two (e ∷ es) fs s = ap (λ (r : List (Event × ℕ)). (e, answerOf s e) ∷ r) (trace-two es fs (after s e))
+
+and-true : (b : Bool) → (b && true) ≡ b
+and-true true = refl
+and-true false = refl
+
+and-false : (b : Bool) → (b && false) ≡ false
+and-false true = refl
+and-false false = refl
+
+-- an accepted connect is answered 0
+pub zero-only : (x : Lined) (hold : List ℕ) (link : Link) (time : ℕ) → accepted (linked x hold link time .answer) ≡ true → linked x hold link time .answer ≡ 0
+zero-only x hold link time =
+    each-has (λ n. accepted n ≡ true → n ≡ 0) (10 ∷ 20 ∷ 0 ∷ [])
+    (λ z. absurd (true≢false (sym z)), (λ z. absurd (true≢false (sym z)), (λ z. refl, tt))) (linked x hold link time .answer) (listed x hold link time)
+
+-- a connect: refused, refused for its buffer, or accepted
+module _ (x : Lined) (hold : List ℕ) (link : Link) (time : ℕ) where
+  abbrev event′ : Event
+  event′ = Connect link time
+
+  abbrev g′ : Given
+  g′ = linked x hold link time
+
+  abbrev Cases : Linked → List Event → Type 0
+  Cases r es = (r .line .dropping ≡ refusedSince (x .line .dropping) (trace (stateOn x) es)) × (T (all (λ p. not (connects p)) (trace (stateOn x) es)) → r .line ≡ x .line)
+
+  link-cases : Cases (links g′ (x .line) hold) (cond (eqb (links g′ (x .line) hold .answer) 22) [] (event′ ∷ []))
+  unfolding refusedSince trace all connects
+  link-cases = by (accepted (g′ .answer)) refl (ltb (length hold) 22) refl
+    where
+      by : (a : Bool) → accepted (g′ .answer) ≡ a → (b : Bool) → ltb (length hold) 22 ≡ b
+          → Cases (links g′ (x .line) hold) (cond (eqb (links g′ (x .line) hold .answer) 22) [] (event′ ∷ []))
+      by false a b e = rw (links-refused x hold link time a, ne-eqb (g′ .answer) 22 (never-22 x hold link time), a) (sym (and-true (x .line .dropping)), λ h. refl)
+      by true a true e = rw (links-short x hold link time a e) (refl, λ h. refl)
+      by true a false e =
+          rw (links-made x hold link time a e, ne-eqb (g′ .answer) 22 (never-22 x hold link time), a) (sym (and-false (x .line .dropping)), λ h. absurd h)
+
+hears-dropped : (x : Lined) (hold scrap : List ℕ) (allowed time : ℕ) → x .line .dropping ≡ true → linedIn (scrapped x hold scrap allowed time) ≡ x
 hears-dropped x hold scrap zero time d = unfold through in refl
 hears-dropped x hold scrap (suc k) time d = ap linedIn (scrapDropped x hold scrap k time d)
 
-pub dropsAll : S.DropsAll
-unfolding runLine afterLine all onlyScraps
-dropsAll x [] d h = refl
-dropsAll x (Links hold link time ∷ acts) d h = absurd h
-dropsAll x (Hears hold scrap allowed time ∷ acts) d h =
-    ap (λ (y : Lined). runLine y acts) (hears-dropped x hold scrap allowed time d) ∙ dropsAll x acts d h
+act-drops : (x : Lined) (a : LineAct) → afterLine x a .line .dropping ≡ refusedSince (x .line .dropping) (trace (stateOn x) (lineEvents x a))
+act-drops x (Links hold link time) = unfold afterLine lineEvents in link-cases x hold link time .0
+act-drops x (Hears hold scrap allowed time) = unfold afterLine lineEvents in scrap-drops scrap time allowed (opens x hold)
 
-green-timely : (f : Feed) (time : ℕ) → eqb (badgeNo (badgeOf f time)) 1 ≡ true → (f .heard ≤ time) × (time ≤ f .heard + f .limit)
-unfolding badge
-green-timely f time = go (listedLimit (f .limit) && leb (f .heard) time && leb time (f .heard + f .limit)) refl
+pub linesDrop : S.LinesDrop
+unfolding runLine writtenLine
+linesDrop x [] = unfold trace refusedSince in refl
+linesDrop x (a ∷ acts) =
+    let rest : List Event = writtenLine (afterLine x a) acts in
+    linesDrop (afterLine x a) acts
+    ∙ (λ i. refusedSince (act-drops x a i) (trace (act-written x a i) rest))
+    ∙ sym (ap (refusedSince (x .line .dropping)) (trace-two (lineEvents x a) rest (stateOn x)) ∙ since-two (trace (stateOn x) (lineEvents x a)) (trace (run (stateOn x) (lineEvents x a)) rest) (x .line .dropping))
+
+act-stays : (x : Lined) (a : LineAct) → x .line .dropping ≡ true → T (all (λ p. not (connects p)) (trace (stateOn x) (lineEvents x a))) → afterLine x a ≡ x
+act-stays x (Links hold link time) d h = unfold afterLine in (λ i. S.lined (link-cases x hold link time .1 (unfold lineEvents in h) i) (x .tables))
+act-stays x (Hears hold scrap allowed time) d h = unfold afterLine in hears-dropped x hold scrap allowed time d
+
+abbrev NoneIn : List (Event × ℕ) → Type 0
+NoneIn ps = T (all (λ p. not (connects p)) ps)
+
+none-two : (p q : List (Event × ℕ)) → NoneIn (p ++ q) → NoneIn p × NoneIn q
+unfolding all
+none-two [] q h = (tt, h)
+none-two (a ∷ p) q h =
+    let k = two (not (connects a)) (all (λ p. not (connects p)) (p ++ q)) h in
+    let r = none-two p q (k .1) in
+    (pair (not (connects a)) (all (λ p. not (connects p)) p) (k .0) (r .0), r .1)
+
+-- no connect in a scrap, nor where one is not accepted
+arrives-none : (es : List Event) → T (all (λ e. not (isConnect e)) es) → (s : State) → NoneIn (trace s es)
+unfolding all trace connects
+arrives-none [] h s = tt
+arrives-none (e ∷ es) h s =
+    let k = two (not (isConnect e)) (all (λ e. not (isConnect e)) es) h in
+    pair (not (accepted (answerOf s e) && isConnect e)) (all (λ p. not (connects p)) (trace (after s e) es)) (either (accepted (answerOf s e)) (isConnect e) (k .0)) (arrives-none es (k .1) (after s e))
   where
-    go : (b : Bool) → (listedLimit (f .limit) && leb (f .heard) time && leb time (f .heard + f .limit)) ≡ b → eqb (badgeNo (cond b (colour (f .phase)) Stale)) 1 ≡ true
-        → (f .heard ≤ time) × (time ≤ f .heard + f .limit)
-    go true e g =
-        let a = both (listedLimit (f .limit) && leb (f .heard) time) (leb time (f .heard + f .limit)) e in
-        let b = both (listedLimit (f .limit)) (leb (f .heard) time) (a .0) in
-        (leb-true (f .heard) time (b .1), leb-true time (f .heard + f .limit) (a .1))
-    go false e g = absurd (true≢false (sym g))
+    either : (a b : Bool) → T (not b) → T (not (a && b))
+    either true b h = h
+    either false b h = tt
+
+units-arrive : (s : List ℕ) (t k : ℕ) (y : Hearing) → T (all (λ e. not (isConnect e)) (units k s t y))
+units-arrive s t zero y = unfold units all in tt
+units-arrive s t (suc k) y = by (turnAt s t y) (units-arrive s t k (onward s t y))
+  where
+    Arrivals : List Event → Type 0
+    Arrivals es = T (all (λ e. not (isConnect e)) es)
+
+    one : (e : Event) (es : List Event) → isConnect e ≡ false → Arrivals es → Arrivals (e ∷ es)
+    one e es p h = unfold all in (pair (not (isConnect e)) (all (λ e. not (isConnect e)) es) (rw p tt) h)
+
+    spoke : (e : Event) → SpokeAt s t y e → Arrivals (units k s t (onward s t y)) → (b : Bool) → goesOn (onward s t y .heard) ≡ b → Arrivals (units (suc k) s t y)
+    spoke e p h true o = subst Arrivals (sym (units-on s t k y e p o)) (one e (units k s t (onward s t y)) (p .arrival) h)
+    spoke e p h false o = subst Arrivals (sym (units-off s t k y e p o)) (one e [] (p .arrival) (unfold all in tt))
+
+    by : TurnAt s t y → Arrivals (units k s t (onward s t y)) → Arrivals (units (suc k) s t y)
+    by (silently q) h = subst Arrivals (sym (units-quiet s t k y q)) (unfold all in tt)
+    by (with-event e p) h = spoke e p h (goesOn (onward s t y .heard)) refl
+
+pub scrap-none : (x : Lined) (hold scrap : List ℕ) (allowed time : ℕ) → NoneIn (trace (stateOn x) (lineEvents x (Hears hold scrap allowed time)))
+unfolding lineEvents
+scrap-none x hold scrap allowed time = arrives-none (units allowed scrap time (opens x hold)) (units-arrive scrap time allowed (opens x hold)) (stateOn x)
+
+pub link-none : (x : Lined) (hold : List ℕ) (link : Link) (time : ℕ) → (links (linked x hold link time) (x .line) hold .answer ≡ 0 → ⊥)
+    → NoneIn (trace (stateOn x) (lineEvents x (Links hold link time)))
+unfolding lineEvents trace all connects
+link-none x hold link time nz = by (accepted (linked x hold link time .answer)) refl (ltb (length hold) 22) refl
+  where
+    r : Linked
+    r = links (linked x hold link time) (x .line) hold
+
+    by : (a : Bool) → accepted (linked x hold link time .answer) ≡ a → (b : Bool) → ltb (length hold) 22 ≡ b
+        → NoneIn (trace (stateOn x) (cond (eqb (r .answer) 22) [] (Connect link time ∷ [])))
+    by false a b e = rw (links-refused x hold link time a, ne-eqb (linked x hold link time .answer) 22 (never-22 x hold link time), a) tt
+    by true a true e = rw (links-short x hold link time a e) tt
+    by true a false e = absurd (nz (ap (λ (r : Linked). r .answer) (links-made x hold link time a e) ∙ zero-only x hold link time a))
+
+pub none-on : (x : Lined) (a : LineAct) (acts : List LineAct) → NoneIn (trace (stateOn x) (lineEvents x a)) → NoConnect (afterLine x a) acts → NoConnect x (a ∷ acts)
+unfolding writtenLine
+none-on x a acts h k =
+    let rest : List Event = writtenLine (afterLine x a) acts in
+    subst NoneIn (sym (trace-two (lineEvents x a) rest (stateOn x)))
+    (none-both (trace (stateOn x) (lineEvents x a)) (trace (run (stateOn x) (lineEvents x a)) rest) h (subst (λ (s : State). NoneIn (trace s rest)) (act-written x a) k))
+  where
+    none-both : (p q : List (Event × ℕ)) → NoneIn p → NoneIn q → NoneIn (p ++ q)
+    none-both p q h k = is-T _ (all-append (λ p. not (connects p)) p q (of-T _ h) (of-T _ k))
+
+pub dropsAll : S.DropsAll
+unfolding runLine writtenLine
+dropsAll x [] d h = refl
+dropsAll x (a ∷ acts) d h =
+    let rest : List Event = writtenLine (afterLine x a) acts in
+    let k = none-two (trace (stateOn x) (lineEvents x a)) (trace (run (stateOn x) (lineEvents x a)) rest) (subst NoneIn (trace-two (lineEvents x a) rest (stateOn x)) h) in
+    let e = act-stays x a d (k .0) in
+    dropsAll (afterLine x a) acts (ap (λ (y : Lined). y .line .dropping) e ∙ d) (subst (λ (s : State). NoneIn (trace s rest)) (sym (act-written x a)) (k .1)) ∙ e
+
+-- what a connect hands back
+pub linkTells : S.LinkTells
+unfolding after
+linkTells x hold link time = by (accepted n) refl (ltb (length hold) 22) refl
+  where
+    n : ℕ
+    n = linked x hold link time .answer
+
+    r : Linked
+    r = links (linked x hold link time) (x .line) hold
+
+    Tells : Bool → Type 0
+    Tells b =
+        (r .answer ≡ cond (eqb n 0 && b) 22 n)
+        × (r .answer ≡ 0 → r .line ≡ record { feed = after (stateOn x) (Connect link time) .feed; held = 0; dropping = false })
+        × ((r .answer ≡ 0 → ⊥) → r .line ≡ x .line)
+
+    by : (a : Bool) → accepted n ≡ a → (b : Bool) → ltb (length hold) 22 ≡ b → Tells (ltb (length hold) 22)
+    by false e b f =
+        let q = links-refused x hold link time e in
+        let z : n ≡ 0 → ⊥ = λ z. true≢false (sym (ap accepted z) ∙ e) in (
+          ap (λ (r : Linked). r .answer) q ∙ sym (ap (λ (c : Bool). cond (c && ltb (length hold) 22) 22 n) (ne-eqb n 0 z)),
+          λ a. absurd (z (sym (ap (λ (r : Linked). r .answer) q) ∙ a)),
+          λ a. ap (λ (r : Linked). r .line) q,
+        )
+    by true e true f =
+        let q = links-short x hold link time e f in
+        let z = zero-only x hold link time e in (
+          ap (λ (r : Linked). r .answer) q ∙ sym (λ i. cond (eqb (z i) 0 && f i) 22 n),
+          λ a. absurd (let y : ⊥ = omega (arith, sym (ap (λ (r : Linked). r .answer) q) ∙ a) in y),
+          λ a. ap (λ (r : Linked). r .line) q,
+        )
+    by true e false f =
+        let q = links-made x hold link time e f in
+        let z = zero-only x hold link time e in (
+          ap (λ (r : Linked). r .answer) q ∙ sym (λ i. cond (eqb (z i) 0 && f i) 22 n),
+          λ a. ap (λ (r : Linked). r .line) q,
+          λ a. absurd (a (ap (λ (r : Linked). r .answer) q ∙ z)),
+        )
+
+-- green at a moment: the limit is one of those listed, and the phase is Live's
+module _ (f : Feed) where
+  green-parts : (time : ℕ) → eqb (badgeNo (badgeOf f time)) 1 ≡ true → (listedLimit (f .limit) ≡ true) × (eqb (badgeNo (colour (f .phase))) 1 ≡ true)
+  unfolding badge
+  green-parts time = go (listedLimit (f .limit) && leb (f .heard) time && leb time (f .heard + f .limit)) refl
+    where
+      go : (b : Bool) → (listedLimit (f .limit) && leb (f .heard) time && leb time (f .heard + f .limit)) ≡ b → eqb (badgeNo (cond b (colour (f .phase)) Stale)) 1 ≡ true
+          → (listedLimit (f .limit) ≡ true) × (eqb (badgeNo (colour (f .phase))) 1 ≡ true)
+      go true e g = (both (listedLimit (f .limit)) (leb (f .heard) time) (both (listedLimit (f .limit) && leb (f .heard) time) (leb time (f .heard + f .limit)) e .0) .0, g)
+      go false e g = absurd (true≢false (sym g))
+
+  green-when : (moment time : ℕ) → eqb (badgeNo (badgeOf f moment)) 1 ≡ true → eqb (badgeNo (badgeOf f time)) 1 ≡ (leb (f .heard) time && leb time (f .heard + f .limit))
+  unfolding badge
+  green-when moment time g = let k = green-parts moment g in rw (k .0) (go (leb (f .heard) time) (leb time (f .heard + f .limit)) (k .1))
+    where
+      go : (p q : Bool) → eqb (badgeNo (colour (f .phase))) 1 ≡ true → eqb (badgeNo (cond (p && q) (colour (f .phase)) Stale)) 1 ≡ (p && q)
+      go true true k = k
+      go true false k = refl
+      go false q k = refl
 
 pub greenToTheLimit : S.GreenToTheLimit
-greenToTheLimit x acts time d h g = green-timely (x .line .feed) time (rw (dropsAll x acts d h) at g)
+greenToTheLimit x acts moment time d h g = ap (λ (y : Lined). isGreen (stateOn y) time) (dropsAll x acts d h) ∙ green-when (x .line .feed) moment time g

@@ -1,23 +1,30 @@
 -- One scrap, proved: each is named as its statement in specs/Scraps, with a small letter. Assumes nothing.
-use Prim.Native.Nat.{ℕ, zero, suc, _+_, _-_, _≤_, _<_}
+use Prim.Native.Nat.{ℕ, zero, suc, _+_, _-_, _≤_, _<_, max}
 use native.Mathlib.Omega.{arith}
 use native.Mathlib.Nat.{add-assoc, zero-add}
 use mathlib.Core.Path.{_≡_, refl, sym, ap, _∙_}
-use mathlib.Core.Bool.{Bool, true, false, cond, not, _&&_, true≢false}
-use mathlib.Core.List.{List, [], _∷_}
+use mathlib.Core.Bool.{Bool, true, false, cond, not, _&&_, _||_, true≢false}
+use mathlib.Core.List.{List, [], _∷_, _++_}
 use lib.ListN.{length, take, drop, length-drop}
-use lib.Seq.{drop-drop}
-use lib.Dec.{T, ltb}
+use lib.Seq.{drop-nil, drop-drop}
+use lib.Dec.{T, ltb, eqb}
 use borrow.Author.Tests.{ne-eqb}
 use Rattle.ground.specs.Choice.{oneOf, first}
 use Rattle.ground.proofs.Choices.{each-has}
-use Rattle.ground.proofs.Bools.{both, split}
-use Rattle.feed.specs.Events.{Tables, State, Event, Connect, Arrive, Overrun}
-use Rattle.feed.specs.Steps.{accepted, stateOf, outcome}
+use Rattle.ground.proofs.Bools.{cond-same, both, split}
+use Rattle.wire.specs.Units.{unitOf}
+use Rattle.wire.specs.declared.Unit.{Unit}
+use Rattle.wire.specs.declared.Unit.the-variants as reader
+use Rattle.feed.specs.Feeds.{deaf}
+use Rattle.feed.specs.Events.{Tables, State, Event, Connect, Arrive, Overrun, cutFrom, news, timeOf}
+use Rattle.feed.specs.Answers.{number, arrives, lacksNeed, isTooLong, isMore, lineTests, tableTests, tests}
+use Rattle.feed.specs.Steps.{accepted, Outcome, stateOf, handed, outcome}
 use Rattle.feed.specs.declared.Given.{Given}
+use Rattle.feed.specs.declared.Answer.{Answer}
+use Rattle.feed.specs.declared.Answer.the-variants.{Keep, Lose}
 use Rattle.feed.proofs.Following.{overrun-not, whole-answered}
-use Rattle.lines.specs.Looks.{look}
-use Rattle.lines.specs.Scraps.{Kept, Hearing, hearing, behind, silent, gathered, settled, looked, once, onward, goesOn, through, links}
+use Rattle.lines.specs.Looks.{exceeds, finished, look}
+use Rattle.lines.specs.Scraps.{Kept, Hearing, hearing, behind, laid, silent, gathered, movedUp, settled, looked, once, onward, goesOn, through, links}
 use Rattle.lines.specs.declared.Look.{Look}
 use Rattle.lines.specs.declared.Look.the-variants.{Waits, TooLong, Finished}
 use Rattle.lines.specs.declared.Line.{Line}
@@ -27,24 +34,28 @@ use Rattle.lines.proofs.Cases.{cond-yes, cond-no}
 use Rattle.lines.proofs.Fronts.{unit-whole}
 use Rattle.lines.proofs.Courses.{onward-fits, onward-counts, through-on, through-ends}
 use Rattle.promises.proofs.Demands as D
-use Rattle.promises.specs.Refusals.{answersTo}
+use Rattle.promises.specs.Refusals.{answersTo, feedRefused}
 use Rattle.promises.specs.Runs.{after, run, answerOf, trace}
 use Rattle.promises.specs.Ledger.{lastOf}
+use Rattle.promises.specs.Demands.{isConnect}
 use Rattle.promises.specs.Frames.{answersIn, acceptedIn}
 use Rattle.promises.specs.Scraps as S
-use Rattle.promises.specs.Scraps.{Lined, stateOn, linedIn, opens, scrapped, due, meets, units, scrapEvents, scrapAnswers}
+use Rattle.promises.specs.Scraps.{Lined, stateOn, linedIn, opens, scrapped, dueEvents, turnEvents, units, scrapEvents, scrapAnswers}
 
 -- what one turn did: nothing was due, or an event was met
 pub record Quiet (l : Line) (x : Tables) (h s : List ℕ) (t : ℕ) : Type 0 where
-  pub met : meets l h s t ≡ []
+  pub met : turnEvents l h s t ≡ []
   pub said : once l x h s t .heard .said ≡ false
   pub answer : once l x h s t .heard .answer ≡ 0
   pub counted : once l x h s t .heard .accepted ≡ 0
   pub used : once l x h s t .heard .used ≡ length s
+  pub drops : once l x h s t .heard .line .dropping ≡ l .dropping
   pub state : stateOn (linedIn (once l x h s t)) ≡ stateOf (l .feed) x
 
 pub record Spoke (l : Line) (x : Tables) (h s : List ℕ) (t : ℕ) (e : Event) : Type 0 where
-  pub met : meets l h s t ≡ e ∷ []
+  pub going : l .dropping ≡ false
+  pub arrival : isConnect e ≡ false
+  pub met : turnEvents l h s t ≡ e ∷ []
   pub said : once l x h s t .heard .said ≡ true
   pub answer : once l x h s t .heard .answer ≡ answerOf (stateOf (l .feed) x) e
   pub counted : once l x h s t .heard .accepted ≡ cond (accepted (answerOf (stateOf (l .feed) x) e)) 1 0
@@ -69,12 +80,12 @@ module _ (l : Line) (x : Tables) (h s : List ℕ) (t : ℕ) where
     unfolding once
     once-is = cond-no (l .dropping) _ _ d ∙ rw e
 
-    pub meets-is : meets l h s t ≡ due v come t
-    unfolding meets
+    pub meets-is : turnEvents l h s t ≡ dueEvents v come t
+    unfolding turnEvents
     meets-is = cond-no (l .dropping) _ _ d ∙ rw e
 
   pub dropped : l .dropping ≡ true → Quiet l x h s t
-  unfolding once meets
+  unfolding once turnEvents
   dropped d =
       let o : once l x h s t ≡ hearing (silent (length s) l) x h = cond-yes (l .dropping) _ _ d in
       record {
@@ -83,11 +94,12 @@ module _ (l : Line) (x : Tables) (h s : List ℕ) (t : ℕ) where
         answer = ap (λ (y : Hearing). y .heard .answer) o;
         counted = ap (λ (y : Hearing). y .heard .accepted) o;
         used = ap (λ (y : Hearing). y .heard .used) o;
+        drops = ap (λ (y : Hearing). y .heard .line .dropping) o;
         state = ap (λ (y : Hearing). stateOn (linedIn y)) o;
       }
 
   pub waits : l .dropping ≡ false → look (length h) (l .held) come ≡ Waits → Quiet l x h s t
-  unfolding looked due
+  unfolding looked dueEvents
   waits d e =
       let o = once-is Waits d e in
       record {
@@ -96,15 +108,18 @@ module _ (l : Line) (x : Tables) (h s : List ℕ) (t : ℕ) where
         answer = ap (λ (y : Hearing). y .heard .answer) o;
         counted = ap (λ (y : Hearing). y .heard .accepted) o;
         used = ap (λ (y : Hearing). y .heard .used) o;
+        drops = ap (λ (y : Hearing). y .heard .line .dropping) o ∙ sym d;
         state = ap (λ (y : Hearing). stateOn (linedIn y)) o;
       }
 
   pub long : l .dropping ≡ false → look (length h) (l .held) come ≡ TooLong → Spoke l x h s t (Overrun t)
-  unfolding looked due after
+  unfolding looked dueEvents after
   long d e =
       let o = once-is TooLong d e in
       let n = overrun-not here t in
       record {
+        going = d;
+        arrival = refl;
         met = meets-is TooLong d e;
         said = ap (λ (y : Hearing). y .heard .said) o;
         answer = ap (λ (y : Hearing). y .heard .answer) o;
@@ -162,8 +177,10 @@ module _ (l : Line) (x : Tables) (h s : List ℕ) (t : ℕ) where
         (ap (λ (k : Kept). k .heard .used) k, ap (λ (k : Kept). k .heard .line .held) k, ap (λ (k : Kept). k .heard .line .dropping) k)
 
     pub fed : Spoke l x h s t unit
-    unfolding due after
+    unfolding dueEvents after
     fed = record {
+      going = d;
+      arrival = refl;
       met = meets-is (Finished n) d e;
       said = ap (λ (r : Heard). r .said) fed-heard ∙ settled-said;
       answer = ap (λ (r : Heard). r .answer) fed-heard ∙ settled-answer;
@@ -174,6 +191,22 @@ module _ (l : Line) (x : Tables) (h s : List ℕ) (t : ℕ) where
           let k = settled-refused a in
           (ap (λ (r : Heard). r .used) fed-heard ∙ k .0, ap (λ (r : Heard). r .line .held) fed-heard ∙ k .1, ap (λ (r : Heard). r .line .dropping) fed-heard ∙ k .2);
     }
+
+  -- no more waits than waited and was used
+  looked-held : (v : Look) → looked v l x h s t .heard .line .held ≤ l .held + looked v l x h s t .heard .used
+  unfolding looked settled
+  looked-held Waits = omega arith
+  looked-held TooLong = omega arith
+  looked-held (Finished n) =
+      split (λ (k : Kept). k .heard .line .held ≤ l .held + k .heard .used) (accepted (outcome here (Arrive (take n come) t) .given .answer)) _ _
+      (λ a. omega arith) (λ a. omega arith)
+
+  pub once-held : once l x h s t .heard .line .held ≤ l .held + once l x h s t .heard .used
+  once-held = by (l .dropping) refl
+    where
+      by : (b : Bool) → l .dropping ≡ b → once l x h s t .heard .line .held ≤ l .held + once l x h s t .heard .used
+      by true d = unfold once in rw (cond-yes {A = Hearing} (l .dropping) _ _ d) (omega arith)
+      by false d = rw (once-is (look (length h) (l .held) come) d refl) (looked-held (look (length h) (l .held) come))
 
   pub turn : Turn l x h s t
   turn = by-drop (l .dropping) refl
@@ -209,7 +242,7 @@ module _ (s : List ℕ) (t : ℕ) where
   SpokeAt y e = Spoke (y .heard .line) (y .tables) (y .hold) (drop (y .heard .used) s) t e
 
   abbrev pub metAt : Hearing → List Event
-  metAt y = meets (y .heard .line) (y .hold) (drop (y .heard .used) s) t
+  metAt y = turnEvents (y .heard .line) (y .hold) (drop (y .heard .used) s) t
 
   abbrev pub at : Hearing → State
   at y = stateOn (linedIn y)
@@ -241,6 +274,10 @@ module _ (s : List ℕ) (t : ℕ) where
   unfolding onward
   quiet-state y q = q .state
 
+  pub quiet-drops : (y : Hearing) → QuietAt y → onward s t y .heard .line .dropping ≡ y .heard .line .dropping
+  unfolding onward
+  quiet-drops y q = q .drops
+
   pub quiet-said : (y : Hearing) → QuietAt y → onward s t y .heard .said ≡ false
   unfolding onward
   quiet-said y q = q .said
@@ -248,6 +285,10 @@ module _ (s : List ℕ) (t : ℕ) where
   pub spoke-taken : (y : Hearing) (e : Event) → SpokeAt y e → accepted (answerOf (at y) e) ≡ true → onward s t y .heard .line .dropping ≡ false
   unfolding onward
   spoke-taken y e p = p .taken
+
+  pub spoke-refused : (y : Hearing) (e : Event) → SpokeAt y e → accepted (answerOf (at y) e) ≡ false → onward s t y .heard .line .dropping ≡ true
+  unfolding onward
+  spoke-refused y e p a = p .refused a .2
 
   module _ (k : ℕ) (y : Hearing) where
     pub units-quiet : QuietAt y → units (suc k) s t y ≡ []
@@ -403,25 +444,107 @@ module _ (s : List ℕ) (t : ℕ) where
       (λ e. ends-off k y h e)
 
   -- no more units and bytes than there are
+  onward-held : (y : Hearing) → onward s t y .heard .line .held + y .heard .used ≤ y .heard .line .held + onward s t y .heard .used
+  unfolding onward
+  onward-held y = omega (arith, once-held (y .heard .line) (y .tables) (y .hold) (drop (y .heard .used) s) t)
+
   pub within : (k : ℕ) (y : Hearing) → y .heard .used ≤ length s
       → (through k s t y .heard .accepted ≤ y .heard .accepted + k) × (through k s t y .heard .used ≤ length s)
+      × (through k s t y .heard .line .held + y .heard .used ≤ y .heard .line .held + through k s t y .heard .used)
   within =
-      walk s t (λ k y z. y .heard .used ≤ length s → (z .heard .accepted ≤ y .heard .accepted + k) × (z .heard .used ≤ length s))
-      (λ y h. (omega arith, h))
+      walk s t (λ k y z. y .heard .used ≤ length s
+      → (z .heard .accepted ≤ y .heard .accepted + k) × (z .heard .used ≤ length s) × (z .heard .line .held + y .heard .used ≤ y .heard .line .held + z .heard .used))
+      (λ y h. (omega arith, h, omega arith))
       (λ k y z o on h.
       let r = on (onward-fits s t y h) in
-      (omega (arith, r .0, onward-counts s t y ∙ ap (λ (b : Bool). y .heard .accepted + cond b 1 0) o), r .1))
-      (λ k y o h. (omega (arith, onward-counts s t y ∙ ap (λ (b : Bool). y .heard .accepted + cond b 1 0) o), onward-fits s t y h))
+      (omega (arith, r .0, onward-counts s t y ∙ ap (λ (b : Bool). y .heard .accepted + cond b 1 0) o), r .1, omega (arith, r .2, onward-held y)))
+      (λ k y o h. (
+        omega (arith, onward-counts s t y ∙ ap (λ (b : Bool). y .heard .accepted + cond b 1 0) o),
+        onward-fits s t y h,
+        onward-held y,
+      ))
 
 pub scrapEnds : S.ScrapEnds
 scrapEnds x hold scrap allowed time =
     let e = ends scrap time allowed (opens x hold) (omega arith) in
-    (e .0, λ a b. (let z = e .1 a b in omega (arith, z)), e .2)
+    (e .0, λ a b. (let z = e .1 a b in omega (arith, z)))
 
 pub scrapWithin : S.ScrapWithin
 scrapWithin x hold scrap allowed time =
     let w = within scrap time allowed (opens x hold) (omega arith) in
-    (omega (arith, w .0), w .1)
+    (omega (arith, w .0), w .1, omega (arith, w .2))
+
+-- what a refusal leaves
+refused-state : (s : State) (e : Event) → accepted (answerOf s e) ≡ false → after s e ≡ stateOf (feedRefused (answerOf s e) (s .feed)) (s .tables)
+unfolding after
+refused-state s e h = ap (λ (o : Outcome). stateOf (o .given .feed) (o .tables)) (D.refused s e h)
+
+-- a scrap that ends with a refusal: so many units, and then the one that is refused
+abbrev Refuses : Hearing → Type 0
+Refuses y = (y .heard .said ≡ true) × (accepted (y .heard .answer) ≡ false)
+
+module _ (s : List ℕ) (t : ℕ) where
+  record Last (y z : Hearing) : Type 0 where
+    pub before : ℕ
+    pub well : through before s t y .heard .accepted ≡ y .heard .accepted + before
+    pub last : z ≡ onward s t (through before s t y)
+
+  last-later : (y z : Hearing) → On (onward s t y) → Last (onward s t y) z → Last y z
+  last-later y z o r =
+      let g : through (suc (r .before)) s t y ≡ through (r .before) s t (onward s t y) = through-on s t y (r .before) o in
+      let c = onward-counts s t y ∙ ap (λ (b : Bool). y .heard .accepted + cond b 1 0) o in
+      record {
+        before = suc (r .before);
+        well = ap (λ (u : Hearing). u .heard .accepted) g ∙ (let w = r .well in omega (arith, w, c));
+        last = r .last ∙ ap (onward s t) (sym g);
+      }
+
+  last-one : (k : ℕ) (y : Hearing) → (Refuses y → ⊥) → Refuses (through k s t y) → Last y (through k s t y)
+  last-one =
+      walk s t (λ k y z. (Refuses y → ⊥) → Refuses z → Last y z)
+      (λ y n h. absurd (n h))
+      (λ k y z o on n h. last-later y z o (on (λ r. true≢false (sym (on-parts s t (onward s t y) o .1) ∙ r .1)) h))
+      (λ k y o n h. record { before = 0; well = unfold through in (omega arith); last = unfold through in refl })
+
+  -- the refused itself
+  module _ (y : Hearing) (u : y .heard .used ≤ length s) (h : Refuses (onward s t y)) where
+    refused-one : (onward s t y .heard ≡ S.endedBy (onward s t y .heard .answer) s y) × (onward s t y .tables ≡ y .tables)
+    refused-one = by (turnAt s t y)
+      where
+        by : TurnAt s t y → (onward s t y .heard ≡ S.endedBy (onward s t y .heard .answer) s y) × (onward s t y .tables ≡ y .tables)
+        by (silently q) = absurd (true≢false (sym (h .0) ∙ quiet-said s t y q))
+        by (with-event e p) =
+            let n = spoke-answer s t y e p in
+            let f : accepted (answerOf (at s t y) e) ≡ false = sym (ap accepted n) ∙ h .1 in
+            let o : after (at s t y) e ≡ stateOf (feedRefused (answerOf (at s t y) e) (y .heard .line .feed)) (y .tables) = refused-state (at s t y) e f in
+            let z : at s t (onward s t y) ≡ stateOf (feedRefused (onward s t y .heard .answer) (y .heard .line .feed)) (y .tables) =
+            spoke-state s t y e p ∙ o ∙ ap (λ (m : ℕ). stateOf (feedRefused m (y .heard .line .feed)) (y .tables)) (sym n) in
+            let c : onward s t y .heard .accepted ≡ y .heard .accepted = onward-counts s t y ∙ ap (λ (b : Bool). y .heard .accepted + cond b 1 0) (spoke-goes s t y e p ∙ f) ∙ omega arith in
+            let r = ends-off s t 0 y u (spoke-goes s t y e p ∙ f) .2 (h .0) (h .1) in (
+              λ i. record {
+                said = h .0 i;
+                answer = onward s t y .heard .answer;
+                accepted = c i;
+                used = r .0 i;
+                line = record { feed = z i .feed; held = r .1 i; dropping = r .2 i };
+              },
+              ap (λ (x : State). x .tables) z,
+            )
+
+pub scrapRefused : S.ScrapRefused
+scrapRefused x hold scrap allowed time a b =
+    let r = last-one scrap time allowed (opens x hold) (λ h. true≢false (sym (h .0))) (a, b) in
+    let y : Hearing = scrapped x hold scrap (r .before) time in
+    let g : Refuses (scrapped x hold scrap allowed time) = (a, b) in
+    let h : Refuses (onward scrap time y) = rw (r .last) at g in
+    let w = within scrap time (r .before) (opens x hold) (omega arith) in
+    let q = refused-one scrap time y (w .1) h in
+    let e : scrapped x hold scrap allowed time .heard .accepted ≡ r .before =
+    ap (λ (z : Hearing). z .heard .accepted) (r .last) ∙ ap (λ (z : Heard). z .accepted) (q .0) ∙ (let v = r .well in omega (arith, v)) in
+    let d : onward scrap time y ≡ scrapped x hold scrap allowed time = sym (r .last) in (
+      ap (λ (z : Hearing). z .heard) (r .last) ∙ q .0 ∙ (λ j. S.endedBy (d j .heard .answer) scrap (scrapped x hold scrap (sym e j) time)),
+      ap (λ (z : Hearing). z .tables) (r .last) ∙ q .1 ∙ (λ j. scrapped x hold scrap (sym e j) time .tables),
+    )
 
 -- every answer of a scrap is one of these: an event that it meets is a finished unit, or what is too long
 abbrev Fine : Hearing → Type 0
@@ -496,6 +619,118 @@ first-turn x hold scrap time =
     })
     (o .tables)
     (o .hold)
+
+pub one-turn : (x : Lined) (hold scrap : List ℕ) (time : ℕ) → scrapped x hold scrap 1 time ≡ once (x .line) (x .tables) hold scrap time
+unfolding through
+one-turn x hold scrap time =
+    cond-same {A = Hearing} (goesOn (onward scrap time (opens x hold) .heard)) (onward scrap time (opens x hold)) ∙ first-turn x hold scrap time
+
+-- when there is an answer, and when it is 22
+overrun-22 : (s : State) (t : ℕ) → eqb (answerOf s (Overrun t)) 22 ≡ (not (ltb t (s .feed .heard)) && not (deaf (s .feed .phase)))
+unfolding outcome handed timeOf news number tests lineTests tableTests first arrives lacksNeed isTooLong isMore
+overrun-22 s t = go (ltb t (s .feed .heard)) (deaf (s .feed .phase))
+  where
+    go : (p q : Bool) → eqb (number (first {A = Answer} ((p, Keep 10) ∷ (q, Keep 11) ∷ []) (Lose 22))) 22 ≡ (not p && not q)
+    go true q = refl
+    go false true = refl
+    go false false = refl
+
+unit-not-22 : (s : State) (bytes : List ℕ) (t : ℕ) → eqb (answerOf s (Arrive bytes t)) 22 ≡ false
+unfolding answersTo
+unit-not-22 s bytes t =
+    each-has (λ n. eqb n 22 ≡ false) (10 ∷ 11 ∷ 3 ∷ 12 ∷ 13 ∷ 14 ∷ 1 ∷ 15 ∷ 18 ∷ 17 ∷ 16 ∷ 2 ∷ 0 ∷ [])
+    (refl, (refl, (refl, (refl, (refl, (refl, (refl, (refl, (refl, (refl, (refl, (refl, (refl, tt))))))))))))) (answerOf s (Arrive bytes t)) (D.listed s (Arrive bytes t))
+
+module _ (x : Lined) (hold scrap : List ℕ) (time : ℕ) (d : x .line .dropping ≡ false) where
+  abbrev all-come : List ℕ
+  all-come = behind (x .line .held) hold scrap
+
+  abbrev Exactly : Heard → Bool → Unit → Type 0
+  Exactly r long u =
+      (r .said ≡ (long || not (isMore (cutFrom all-come u))))
+      × (eqb (r .answer) 22 ≡ (long && not (ltb time (x .line .feed .heard)) && not (deaf (x .line .feed .phase))))
+
+  abbrev turned : Heard
+  turned = once (x .line) (x .tables) hold scrap time .heard
+
+  by-reader : (u : Unit) → look (length hold) (x .line .held) all-come ≡ finished u → Exactly turned false u
+  unfolding finished cutFrom isMore
+  by-reader reader.More e = let q = waits (x .line) (x .tables) hold scrap time d e in (q .said, ap (λ (n : ℕ). eqb n 22) (q .answer))
+  by-reader reader.Heartbeat e =
+      let p = fed (x .line) (x .tables) hold scrap time 20 d e in
+      (p .said, ap (λ (n : ℕ). eqb n 22) (p .answer) ∙ unit-not-22 (stateOn x) (take 20 all-come) time)
+  by-reader (reader.Message q i n) e =
+      let p = fed (x .line) (x .tables) hold scrap time (20 + max 2 n) d e in
+      (p .said, ap (λ (n : ℕ). eqb n 22) (p .answer) ∙ unit-not-22 (stateOn x) (take (20 + max 2 n) all-come) time)
+
+  by-length : (b : Bool) → exceeds (length hold) (x .line .held) all-come ≡ b → Exactly turned b (unitOf all-come)
+  by-length true e =
+      let p = long (x .line) (x .tables) hold scrap time d (unfold look in rw e) in
+      (p .said, ap (λ (n : ℕ). eqb n 22) (p .answer) ∙ overrun-22 (stateOn x) time)
+  by-length false e = by-reader (unitOf all-come) (unfold look in rw e)
+
+pub scrapExactly : S.ScrapExactly
+unfolding news
+scrapExactly x hold scrap time d =
+    rw (one-turn x hold scrap time) (by-length x hold scrap time d (exceeds (length hold) (x .line .held) (behind (x .line .held) hold scrap)) refl)
+
+-- nothing waits: no copy
+module _ (l : Line) (x : Tables) (h s : List ℕ) (t : ℕ) (w : l .held ≡ 0) where
+  gathers-none : (n : ℕ) → gathered n (l .held) h s ≡ h
+  unfolding gathered
+  gathers-none n = ap (λ (k : ℕ). gathered n k h s) w
+
+  moves-none : (n : ℕ) (b : List ℕ) → movedUp n (l .held) b ≡ b
+  moves-none n b = ap (λ (k : ℕ). movedUp n k b) w ∙ ap (λ (e : List ℕ). laid e b) (drop-nil n)
+
+  no-bytes : (b : List ℕ) → length b ≡ 0 → b ≡ []
+  no-bytes [] e = refl
+  no-bytes (k ∷ b) e = absurd (let z : ⊥ = omega (arith, e) in z)
+
+  looked-copies : (v : Look) → looked v l x h s t .heard .line .held ≡ 0 → looked v l x h s t .hold ≡ h
+  unfolding looked settled
+  looked-copies Waits e =
+      let z : s ≡ [] = no-bytes s (omega (arith, e)) in
+      λ i. laid (take (w i) h ++ z i) h
+  looked-copies TooLong e = refl
+  looked-copies (Finished n) e =
+      split (λ (k : Kept). k .hold ≡ h) (accepted (outcome (stateOf (l .feed) x) (Arrive (take n (behind (l .held) h s)) t) .given .answer)) _ _
+      (λ a. moves-none n (gathered n (l .held) h s) ∙ gathers-none n) (λ a. gathers-none n)
+
+  pub once-copies : once l x h s t .heard .line .held ≡ 0 → once l x h s t .hold ≡ h
+  unfolding once
+  once-copies =
+      split (λ (y : Hearing). y .heard .line .held ≡ 0 → y .hold ≡ h) (l .dropping) _ _ (λ d e. refl)
+      (λ d. looked-copies (look (length h) (l .held) (behind (l .held) h s)))
+
+  -- an accepted unit leaves no more waiting
+  looked-empties : (v : Look) → goesOn (looked v l x h s t .heard) ≡ true → looked v l x h s t .heard .line .held ≡ 0
+  unfolding looked settled goesOn
+  looked-empties Waits = λ e. absurd (true≢false (sym e))
+  looked-empties TooLong = λ e. refl
+  looked-empties (Finished n) =
+      split (λ (k : Kept). goesOn (k .heard) ≡ true → k .heard .line .held ≡ 0) (accepted (outcome (stateOf (l .feed) x) (Arrive (take n (behind (l .held) h s)) t) .given .answer)) _ _
+      (λ a e. omega (arith, w)) (λ a e. refl)
+
+  pub once-empties : goesOn (once l x h s t .heard) ≡ true → once l x h s t .heard .line .held ≡ 0
+  unfolding once
+  once-empties =
+      split (λ (y : Hearing). goesOn (y .heard) ≡ true → y .heard .line .held ≡ 0) (l .dropping) _ _ (λ d e. w)
+      (λ d. looked-empties (look (length h) (l .held) (behind (l .held) h s)))
+
+pub nothingCopied : S.NothingCopied
+nothingCopied x hold scrap allowed time =
+    walk scrap time (λ k y z. y .heard .line .held ≡ 0 → z .heard .line .held ≡ 0 → z .hold ≡ y .hold)
+    (λ y w e. refl)
+    (λ k y z o on w e. let f = empties y w o in on f e ∙ copies y w f)
+    (λ k y o w e. copies y w e)
+    allowed (opens x hold)
+  where
+    copies : (y : Hearing) → y .heard .line .held ≡ 0 → onward scrap time y .heard .line .held ≡ 0 → onward scrap time y .hold ≡ y .hold
+    copies y w e = unfold onward in (once-copies (y .heard .line) (y .tables) (y .hold) (drop (y .heard .used) scrap) time w (unfold onward in e))
+
+    empties : (y : Hearing) → y .heard .line .held ≡ 0 → On (onward scrap time y) → onward scrap time y .heard .line .held ≡ 0
+    empties y w o = unfold onward in (once-empties (y .heard .line) (y .tables) (y .hold) (drop (y .heard .used) scrap) time w (unfold onward goesOn in o))
 
 -- a line that drops
 pub scrapDropped : S.ScrapDropped

@@ -42,8 +42,8 @@ use Rattle.promises.specs.Runs.{after, answerOf}
 use Rattle.promises.specs.Frames.{stateIn}
 use Rattle.promises.specs.Scraps as S
 use Rattle.promises.specs.Scraps.{opens, units, isOverrun}
-use Rattle.promises.proofs.Scraps.{at, SpokeAt, spoke-goes, spoke-state, spoke-taken, quiet-state, quiet-said, spoke-said, spoke-answer, quiet-off, units-on, units-quiet, units-off, dropped, waits, long, fed}
-use Rattle.promises.proofs.Cuts.{flow, told-waiting, unit-flow, onward-holds}
+use Rattle.promises.proofs.Scraps.{at, SpokeAt, spoke-goes, spoke-state, spoke-taken, spoke-refused, quiet-state, quiet-said, spoke-said, spoke-answer, quiet-off, units-on, units-quiet, units-off, dropped, waits, long, fed}
+use Rattle.promises.proofs.Cuts.{flow, told-waiting, waits-flow, unit-flow, onward-holds}
 
 -- bytes that are no whole unit are answered 10, 11 or 3, and change nothing
 record Unfinished (x : State) (s : List ℕ) (t : ℕ) : Type 0 where
@@ -150,6 +150,7 @@ module _ (B s : List ℕ) (t : ℕ) where
       × (g .frame .accepted ≡ z .heard .accepted)
       × (z .heard .said ≡ true → g .frame .answer ≡ z .heard .answer)
       × (z .heard .said ≡ false → (k ≡ 0 → ⊥) → T (oneOf (g .frame .answer) (3 ∷ 10 ∷ 11 ∷ [])))
+      × (z .heard .line .dropping ≡ false → bytes z ≡ drop (g .frame .used) B)
 
   abbrev asksOf : Hearing → Look
   asksOf y = look (length (y .hold)) (y .heard .line .held) (bytes y)
@@ -200,6 +201,8 @@ module _ (B s : List ℕ) (t : ℕ) where
             ap (λ (g : Framed). g .frame .accepted) a ∙ not-counted (u .answer) (f .frame .accepted) (u .refused) ∙ r .counted ∙ sym (counted-by false (quiet-off s t y q)),
             λ h. absurd (true≢false (sym h ∙ quiet-said s t y q)),
             λ h nz. subst (λ (n : ℕ). T (oneOf n (3 ∷ 10 ∷ 11 ∷ []))) (sym (ap (λ (g : Framed). g .frame .answer) a)) (u .among),
+            λ h. ap (λ (z : S.View). z .waiting) (waits-flow [] s t y d e) ∙ sym (r .left)
+                ∙ ap (λ (k : ℕ). drop k B) (sym (ap (λ (g : Framed). g .frame .used) a ∙ (let z : f .frame .used + 0 ≡ f .frame .used = omega arith in z))),
           )
           (quiet-off s t y q) w
 
@@ -224,13 +227,14 @@ module _ (B s : List ℕ) (t : ℕ) where
               ap (λ (g : Framed). g .frame .accepted) next-is ∙ not-counted (answerOf (at s t y) event) (f .frame .accepted) h ∙ r .counted ∙ sym (counted-by false o),
               λ a. ap (λ (g : Framed). g .frame .answer) next-is ∙ sym (spoke-answer s t y event p),
               λ a nz. absurd (true≢false (sym (spoke-said s t y event p) ∙ a)),
+              λ a. absurd (true≢false (sym (spoke-refused s t y event p h) ∙ a)),
             )
             o (ap (λ (g : Framed). accepted (g .frame .answer)) next-is ∙ h)
 
         on-taken : accepted (answerOf (at s t y) event) ≡ true → Rel (onward s t y) next
         on-taken h =
             let o : goesOn (onward s t y .heard) ≡ true = spoke-goes s t y event p ∙ h in
-            let w : bytes (onward s t y) ≡ drop n (bytes y) = ap (λ (z : S.Seen). z .waiting) (unit-flow [] s t y d n e) ∙ told-waiting (flow [] s y) event (drop n (bytes y)) h in
+            let w : bytes (onward s t y) ≡ drop n (bytes y) = ap (λ (z : S.View). z .waiting) (unit-flow [] s t y d n e) ∙ told-waiting (flow [] s y) event (drop n (bytes y)) h in
             let u : outcome (at s t y) event .given .used ≡ n = uses-own (at s t y) (length (y .hold)) (y .heard .line .held) n (bytes y) t e h in
             record {
               state = ap stateIn next-is ∙ after-is (at s t y) event ∙ sym (spoke-state s t y event p);
@@ -266,7 +270,7 @@ module _ (B s : List ℕ) (t : ℕ) where
       → T (all (λ e. not (isOverrun e)) (units k s t y)) → Final k (through k s t y) (frame.through k B t f)
 
   together : (k : ℕ) (y : Hearing) → Together k y
-  together zero y f r d a w = unfold through frame.through in (r .state, r .counted, a, λ b nz. absurd (nz refl))
+  together zero y f r d a w = unfold through frame.through in (r .state, r .counted, a, λ b nz. absurd (nz refl), λ b. sym (r .left))
   together (suc k) y f r d a w = go (together k (onward s t y)) (asksOf y) refl
     where
       go : Together k (onward s t y) → (v : Look) → asksOf y ≡ v → Final (suc k) (through (suc k) s t y) (frame.through (suc k) B t f)
@@ -284,7 +288,7 @@ module _ (B s : List ℕ) (t : ℕ) where
               let rest = ih (frame.onward B t f) (on-taken y f r d k n e h) (spoke-taken s t y event p h)
               (λ a. ap (λ (g : Framed). g .frame .answer) q ∙ sym (spoke-answer s t y event p)) (later-fits y k event p o w) in
               rw (through-on s t y k o, framing.through-on B t f k (ap (λ (g : Framed). accepted (g .frame .answer)) q ∙ h))
-              (rest .0, rest .1, rest .2, λ a nz. silent-last k (onward s t y) (frame.onward B t f) (spoke-said s t y event p) (rest .3) a)
+              (rest .0, rest .1, rest .2, λ a nz. silent-last k (onward s t y) (frame.onward B t f) (spoke-said s t y event p) (rest .3) a, rest .4)
 
 pub scrapIsFrame : S.ScrapIsFrame
 scrapIsFrame x hold scrap allowed time d h w =
@@ -333,7 +337,7 @@ module _ (s : List ℕ) (t : ℕ) where
           by true a =
               let o = onward-holds s t y d in
               let w : flow [] s (onward s t y) .waiting ≡ drop n (flow [] s y .waiting) =
-              ap (λ (z : S.Seen). z .waiting) (unit-flow [] s t y d n e) ∙ told-waiting (flow [] s y) event (drop n (flow [] s y .waiting)) a in
+              ap (λ (z : S.View). z .waiting) (unit-flow [] s t y d n e) ∙ told-waiting (flow [] s y) event (drop n (flow [] s y .waiting)) a in
               let rest = ih (spoke-taken s t y event p a) (rw (o .0) l) (rw (o .0) (o .1)) (rw w (bytes-drop n (flow [] s y .waiting) b)) in
               subst (λ (es : List Event). T (all (λ e. not (isOverrun e)) es)) (sym (units-on s t k y event p (spoke-goes s t y event p ∙ a))) rest
 

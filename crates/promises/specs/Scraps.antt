@@ -1,11 +1,11 @@
 -- Scraps through a holding buffer (document 02, request 5): what a line hands back, scraps as one piece, and runs of a line's calls. Each statement is
--- proved in proofs/Scraps or proofs/Lines, under its name with a small letter. Assumes nothing.
+-- proved in proofs/Scraps, Cuts, Singles or Lines, under its name with a small letter. Assumes nothing.
 use Prim.Native.Nat.{ℕ, zero, suc, _+_, _≤_, _<_}
 use mathlib.Core.Path.{_≡_}
-use mathlib.Core.Bool.{Bool, true, false, cond, not, _&&_}
+use mathlib.Core.Bool.{Bool, true, false, cond, not, _&&_, _||_}
 use mathlib.Core.List.{List, [], _∷_, _++_}
 use lib.ListN.{length, take, drop}
-use lib.Dec.{T, eqb}
+use lib.Dec.{T, ltb, leb, eqb}
 use Rattle.ground.specs.Choice.{oneOf, all}
 use Rattle.wire.specs.Number.{bytesOnly}
 use Rattle.slots.specs.Layout.{slotsIn}
@@ -13,21 +13,25 @@ use Rattle.ladder.specs.Words.{sound}
 use Rattle.books.specs.Table.{books}
 use Rattle.strips.specs.Words as strip
 use Rattle.strips.specs.Table.{strips}
-use Rattle.feed.specs.Events.{Tables, State, Event, Connect, Arrive, Cut, Overrun}
+use Rattle.feed.specs.Feeds.{deaf}
+use Rattle.feed.specs.Events.{Tables, State, Event, Connect, Arrive, Cut, Overrun, news}
+use Rattle.feed.specs.Answers.{isMore}
 use Rattle.feed.specs.Steps.{accepted, stateOf, outcome}
 use Rattle.feed.specs.Frames.{Framed, framed}
 use Rattle.feed.specs.declared.Given.{Given}
 use Rattle.feed.specs.declared.Link.{Link}
-use Rattle.lines.specs.Looks.{look}
+use Rattle.lines.specs.Looks.{exceeds, look}
 use Rattle.lines.specs.Scraps.{Hearing, hearing, behind, silent, onward, goesOn, hears, links}
 use Rattle.lines.specs.declared.Look.{Look}
 use Rattle.lines.specs.declared.Look.the-variants.{Waits, TooLong, Finished}
 use Rattle.lines.specs.declared.Line.{Line}
-use Rattle.promises.specs.Refusals.{ending}
-use Rattle.promises.specs.Runs.{Sizes, zeroed, start, run, trace, endOf, tale, isGreen, green, replay}
+use Rattle.lines.specs.declared.Linked.{Linked}
+use Rattle.lines.specs.declared.Heard.{Heard}
+use Rattle.promises.specs.Refusals.{ending, feedRefused}
+use Rattle.promises.specs.Runs.{Sizes, zeroed, start, after, run, answerOf, trace, endOf, tale, isGreen, green, replay}
 use Rattle.promises.specs.Ledger.{upTo, lastOf}
 use Rattle.promises.specs.NoHole.{kept}
-use Rattle.promises.specs.Demands.{Bytes, connects}
+use Rattle.promises.specs.Demands.{Bytes, isConnect, connects}
 use Rattle.promises.specs.Frames.{answersIn, acceptedIn, stateIn}
 
 -- a line with its tables, and the feed with them
@@ -52,21 +56,21 @@ abbrev pub scrapped : Lined → List ℕ → List ℕ → ℕ → ℕ → Hearin
 scrapped x hold scrap allowed time = hears (x .line) (x .tables) hold scrap allowed time
 
 -- A SCRAP WRITTEN OUT: the events that its units are. One that only waits is none, and a line that drops meets none
-unfoldable pub due : Look → List ℕ → ℕ → List Event
-due Waits s time = []
-due TooLong s time = Overrun time ∷ []
-due (Finished n) s time = Arrive (take n s) time ∷ []
+unfoldable pub dueEvents : Look → List ℕ → ℕ → List Event
+dueEvents Waits s time = []
+dueEvents TooLong s time = Overrun time ∷ []
+dueEvents (Finished n) s time = Arrive (take n s) time ∷ []
 
-unfoldable pub meets : Line → List ℕ → List ℕ → ℕ → List Event
-meets l hold scrap time =
+unfoldable pub turnEvents : Line → List ℕ → List ℕ → ℕ → List Event
+turnEvents l hold scrap time =
     cond (l .dropping) []
-    (due (look (length hold) (l .held) (behind (l .held) hold scrap)) (behind (l .held) hold scrap) time)
+    (dueEvents (look (length hold) (l .held) (behind (l .held) hold scrap)) (behind (l .held) hold scrap) time)
 
 unfoldable pub units : ℕ → List ℕ → ℕ → Hearing → List Event
 units zero scrap time y = []
 units (suc left) scrap time y =
     let z : Hearing = onward scrap time y in
-    meets (y .heard .line) (y .hold) (drop (y .heard .used) scrap) time ++ cond (goesOn (z .heard)) (units left scrap time z) []
+    turnEvents (y .heard .line) (y .hold) (drop (y .heard .used) scrap) time ++ cond (goesOn (z .heard)) (units left scrap time z) []
 
 abbrev pub scrapEvents : Lined → List ℕ → List ℕ → ℕ → ℕ → List Event
 scrapEvents x hold scrap allowed time = units allowed scrap time (opens x hold)
@@ -75,7 +79,7 @@ scrapEvents x hold scrap allowed time = units allowed scrap time (opens x hold)
 abbrev pub scrapSaid : Lined → List ℕ → List ℕ → ℕ → ℕ → List (Event × ℕ)
 scrapSaid x hold scrap allowed time = trace (stateOn x) (scrapEvents x hold scrap allowed time)
 
--- DEMAND 1 of a scrap. All that it hands back, by its events: the feed and the tables, how many were accepted, and the last answer where one is said
+-- DEMAND 1 of a scrap. What it hands back, by its events: the feed and the tables, how many were accepted, and the last answer where one is said
 abbrev pub ScrapTells : Type 0
 ScrapTells =
     (x : Lined) (hold scrap : List ℕ) (allowed time : ℕ)
@@ -85,38 +89,89 @@ ScrapTells =
     × (y .heard .said ≡ true → y .heard .answer ≡ lastOf 0 (answersIn (scrapSaid x hold scrap allowed time)))
     × (y .heard .said ≡ false → y .heard .answer ≡ 0)
 
--- any bytes, any tables, any buffer, any clock reading and any number allowed gets one of these; "No scrap is answered 3"
+-- any bytes, any tables, any buffer, any clock reading and any number allowed gets one of these: no scrap is answered 3
 abbrev pub scrapAnswers : List ℕ
 scrapAnswers = 10 ∷ 11 ∷ 22 ∷ 12 ∷ 13 ∷ 14 ∷ 1 ∷ 15 ∷ 18 ∷ 17 ∷ 16 ∷ 2 ∷ 0 ∷ []
 
 abbrev pub ScrapListed : Type 0
 ScrapListed = (x : Lined) (hold scrap : List ℕ) (allowed time : ℕ) → T (oneOf (scrapped x hold scrap allowed time .heard .answer) scrapAnswers)
 
--- .. and a connect one of these
+-- "under exactly its stated condition": there is an answer exactly if 22 is due or the reader would not say More, and it is 22 exactly if 22 is due and
+-- neither 10 nor 11 comes first
+abbrev pub ScrapExactly : Type 0
+ScrapExactly =
+    (x : Lined) (hold scrap : List ℕ) (time : ℕ) → x .line .dropping ≡ false
+    → let s : List ℕ = behind (x .line .held) hold scrap in
+    let long : Bool = exceeds (length hold) (x .line .held) s in
+    let r : Heard = scrapped x hold scrap 1 time .heard in
+    (r .said ≡ (long || not (isMore (news (Arrive s time)))))
+    × (eqb (r .answer) 22 ≡ (long && not (ltb time (x .line .feed .heard)) && not (deaf (x .line .feed .phase))))
+
+-- a connect: the feed's answer, or 22 where that is 0 and the buffer is "too short for the header and MsgSize"; accepted, it "empties the holding buffer" and
+-- ends the dropping; refused, everything is unchanged
 abbrev pub linked : Lined → List ℕ → Link → ℕ → Given
 linked x hold link time = outcome (stateOn x) (Connect link time) .given
+
+abbrev pub LinkTells : Type 0
+LinkTells =
+    (x : Lined) (hold : List ℕ) (link : Link) (time : ℕ)
+    → let r : Linked = links (linked x hold link time) (x .line) hold in
+    let n : ℕ = answerOf (stateOn x) (Connect link time) in
+    (r .answer ≡ cond (eqb n 0 && ltb (length hold) 22) 22 n)
+    × (r .answer ≡ 0 → r .line ≡ record { feed = after (stateOn x) (Connect link time) .feed; held = 0; dropping = false })
+    × ((r .answer ≡ 0 → ⊥) → r .line ≡ x .line)
 
 abbrev pub LinkListed : Type 0
 LinkListed =
     (x : Lined) (hold : List ℕ) (link : Link) (time : ℕ)
     → T (oneOf (links (linked x hold link time) (x .line) hold .answer) (10 ∷ 20 ∷ 22 ∷ 0 ∷ []))
 
--- how a scrap ends: with no answer all of it is used; with an accepted one the allowed number is reached; with a refusal all of it is used, nothing
--- waits, the line drops, no table is written by it, and documents 01 and 02 say what becomes of the feed
+-- how a scrap ends: with no answer all of it is used; with an accepted one the allowed number is reached
 abbrev pub ScrapEnds : Type 0
 ScrapEnds =
     (x : Lined) (hold scrap : List ℕ) (allowed time : ℕ)
     → let y : Hearing = scrapped x hold scrap (suc allowed) time in
     (y .heard .said ≡ false → y .heard .used ≡ length scrap)
     × (y .heard .said ≡ true → accepted (y .heard .answer) ≡ true → y .heard .accepted ≡ suc allowed)
-    × (y .heard .said ≡ true → accepted (y .heard .answer) ≡ false
-    → (y .heard .used ≡ length scrap) × (y .heard .line .held ≡ 0) × (y .heard .line .dropping ≡ true))
 
--- no more are accepted than are allowed, no more bytes used than there are, and the buffer is as long as it was
+-- .. or with a refusal: all of it is used, nothing waits, and the line drops. What was accepted before stays applied; the refused writes no word of a table
+-- and counts for nothing, and documents 01 and 02 say what becomes of the feed
+abbrev pub endedBy : ℕ → List ℕ → Hearing → Heard
+endedBy n scrap y = record {
+  said = true;
+  answer = n;
+  accepted = y .heard .accepted;
+  used = length scrap;
+  line = record { feed = feedRefused n (y .heard .line .feed); held = 0; dropping = true };
+}
+
+abbrev pub ScrapRefused : Type 0
+ScrapRefused =
+    (x : Lined) (hold scrap : List ℕ) (allowed time : ℕ)
+    → let y : Hearing = scrapped x hold scrap allowed time in
+    let before : Hearing = scrapped x hold scrap (y .heard .accepted) time in
+    y .heard .said ≡ true → accepted (y .heard .answer) ≡ false
+    → (y .heard ≡ endedBy (y .heard .answer) scrap before) × (y .tables ≡ before .tables)
+
+-- no more are accepted than are allowed, no more bytes used than there are, and no more wait than waited and were used
 abbrev pub ScrapWithin : Type 0
 ScrapWithin =
     (x : Lined) (hold scrap : List ℕ) (allowed time : ℕ)
-    → (scrapped x hold scrap allowed time .heard .accepted ≤ allowed) × (scrapped x hold scrap allowed time .heard .used ≤ length scrap)
+    → let y : Hearing = scrapped x hold scrap allowed time in
+    (y .heard .accepted ≤ allowed) × (y .heard .used ≤ length scrap) × (y .heard .line .held ≤ x .line .held + y .heard .used)
+
+-- the buffer is as long as it was, and what waits fits it where it did before
+abbrev pub ScrapHolds : Type 0
+ScrapHolds =
+    (x : Lined) (hold scrap : List ℕ) (allowed time : ℕ)
+    → let y : Hearing = scrapped x hold scrap allowed time in
+    (length (y .hold) ≡ length hold) × (x .line .held ≤ length hold → y .heard .line .held ≤ length hold)
+
+-- nothing waits before it or after it: no byte of the buffer is written
+abbrev pub NothingCopied : Type 0
+NothingCopied =
+    (x : Lined) (hold scrap : List ℕ) (allowed time : ℕ) → x .line .held ≡ 0 → scrapped x hold scrap allowed time .heard .line .held ≡ 0
+    → scrapped x hold scrap allowed time .hold ≡ hold
 
 -- "what follows a refusal is dropped, without an answer, until the next accepted connect": no line, no word and no byte of the buffer changes
 abbrev pub ScrapDropped : Type 0
@@ -127,48 +182,48 @@ ScrapDropped =
 -- THE SENTENCE OF DOCUMENT 02. "Given the same time and holding buffer throughout, cutting a byte run into any scraps, some of them empty, gives the same
 -- answers, tables and feed as one piece, up to and including the first refusal": what is seen of a line are its events with their answers, the feed and
 -- the tables, the bytes that wait, and whether it drops
-pub record Seen : Type 0 where
+pub record View : Type 0 where
   pub said : List (Event × ℕ)
   pub state : State
   pub waiting : List ℕ
   pub dropping : Bool
 
-abbrev pub seen : List (Event × ℕ) → Hearing → Seen
-seen said y = record {
+abbrev pub view : List (Event × ℕ) → Hearing → View
+view said y = record {
   said = said;
   state = stateOn (linedIn y);
   waiting = take (y .heard .line .held) (y .hold);
   dropping = y .heard .line .dropping;
 }
 
--- enough units allowed: a unit has 20 bytes, so no more can be finished than there are bytes
-abbrev pub enough : Lined → List ℕ → ℕ
-enough x scrap = suc (x .line .held + length scrap)
-
--- scraps handed in one after the other, each with enough allowed
-unfoldable pub scraps : List (Event × ℕ) → Lined → List ℕ → List (List ℕ) → ℕ → Seen
-scraps said x hold [] time = seen said (opens x hold)
-scraps said x hold (s ∷ ss) time =
-    let y : Hearing = scrapped x hold s (enough x s) time in
-    scraps (said ++ scrapSaid x hold s (enough x s) time) (linedIn y) (y .hold) ss time
+-- scraps handed in one after the other, at each so many units allowed
+unfoldable pub scraps : List (Event × ℕ) → Lined → List ℕ → List (List ℕ) → ℕ → ℕ → View
+scraps said x hold [] allowed time = view said (opens x hold)
+scraps said x hold (s ∷ ss) allowed time =
+    let y : Hearing = scrapped x hold s allowed time in
+    scraps (said ++ scrapSaid x hold s allowed time) (linedIn y) (y .hold) ss allowed time
 
 unfoldable pub onePiece : List (List ℕ) → List ℕ
 onePiece [] = []
 onePiece (s ∷ ss) = s ++ onePiece ss
 
+-- enough are allowed: no more units can be finished than bytes wait and come
+abbrev pub Enough : Lined → List ℕ → List ℕ → ℕ → Type 0
+Enough x hold bytes allowed = length (behind (x .line .held) hold bytes) < allowed
+
 abbrev pub AnyScraps : Type 0
 AnyScraps =
-    (x : Lined) (hold s : List ℕ) (ss : List (List ℕ)) (time : ℕ)
-    → scraps [] x hold (s ∷ ss) time ≡ scraps [] x hold (onePiece (s ∷ ss) ∷ []) time
+    (x : Lined) (hold s : List ℕ) (ss : List (List ℕ)) (allowed time : ℕ) → Enough x hold (onePiece (s ∷ ss)) allowed
+    → scraps [] x hold (s ∷ ss) allowed time ≡ scraps [] x hold (onePiece (s ∷ ss) ∷ []) allowed time
 
--- and whatever more is allowed changes nothing, not a byte of the buffer
+-- and any two numbers that are enough do the same, to every byte of the buffer
 abbrev pub MoreAllowed : Type 0
 MoreAllowed =
-    (x : Lined) (hold scrap : List ℕ) (allowed time : ℕ) → x .line .held + length scrap < allowed
-    → (scrapped x hold scrap allowed time ≡ scrapped x hold scrap (enough x scrap) time)
-    × (scrapEvents x hold scrap allowed time ≡ scrapEvents x hold scrap (enough x scrap) time)
+    (x : Lined) (hold scrap : List ℕ) (a b time : ℕ) → Enough x hold scrap a → Enough x hold scrap b
+    → (scrapped x hold scrap a time ≡ scrapped x hold scrap b time)
+    × (scrapEvents x hold scrap a time ≡ scrapEvents x hold scrap b time)
 
--- "come again with the rest": a units, and then b on what is left, are a + b where a were accepted; and where fewer were, a + b end where a do
+-- come again with the rest: a units, and then b on what is left, are a + b where a were accepted; and where fewer were, a + b end where a do
 abbrev pub onTop : ℕ → Hearing → Hearing → Hearing
 onTop b y z =
     hearing
@@ -195,7 +250,8 @@ ScrapStops =
     → scrapped x hold scrap (a + b) time ≡ scrapped x hold scrap a time
 
 -- SINGLE ARRIVALS. Where 22 is never due, the answers are those of single arrivals at the bytes that wait and the scrap behind them (request 3's frames are
--- made of them), but for an answer to what is no finished unit: 3, and a 10 or 11 that comes when it is. Said for every number allowed, so of each answer
+-- made of them), but for an answer to what is no finished unit: 3, and a 10 or 11 that comes when it is; and the bytes that wait, with those that are left of
+-- the scrap, are the bytes that single arrivals leave. Said for every number allowed, so of each answer
 unfoldable pub isOverrun : Event → Bool
 isOverrun (Connect link time) = false
 isOverrun (Arrive bytes time) = false
@@ -214,6 +270,8 @@ ScrapIsFrame =
     × (f .frame .accepted ≡ y .heard .accepted)
     × (y .heard .said ≡ true → f .frame .answer ≡ y .heard .answer)
     × (y .heard .said ≡ false → (allowed ≡ 0 → ⊥) → T (oneOf (f .frame .answer) (3 ∷ 10 ∷ 11 ∷ [])))
+    × (y .heard .line .dropping ≡ false
+    → take (y .heard .line .held) (y .hold) ++ drop (y .heard .used) scrap ≡ drop (f .frame .used) (behind (x .line .held) hold scrap))
 
 -- and with a buffer for the longest unit, of 20 + 65,535 bytes, 22 is never due of bytes
 abbrev pub longest : ℕ
@@ -297,25 +355,34 @@ LinesSound =
     → (all sound (slotsIn books (endLine limit n acts .tables .books)) ≡ true)
     × (all strip.sound (slotsIn strips (endLine limit n acts .tables .strips)) ≡ true)
 
+-- no connect is accepted
+abbrev pub NoConnect : Lined → List LineAct → Type 0
+NoConnect x acts = T (all (λ p. not (connects p)) (trace (stateOn x) (writtenLine x acts)))
+
 -- THE MORNING OF THE INCIDENT. After a scrap answered 12 to 18 or 22 the badge is not green at any time, whatever comes, as long as no connect is accepted
 abbrev pub LineStaysDark : Type 0
 LineStaysDark =
     (limit : ℕ) (n : Sizes) (acts : List LineAct) (hold scrap : List ℕ) (allowed moment : ℕ) (more : List LineAct) (time : ℕ)
     → let lost : Hearing = scrapped (endLine limit n acts) hold scrap allowed moment in
     T (oneOf (lost .heard .answer) ending)
-    → T (all (λ p. not (connects p)) (trace (stateOn (linedIn lost)) (writtenLine (linedIn lost) more)))
+    → NoConnect (linedIn lost) more
     → isGreen (stateOn (endLine limit n (acts ++ (Hears hold scrap allowed moment ∷ more)))) time ≡ false
 
--- WHAT DROPPING DOES TO THE BADGE. Whatever scraps come to a line that drops, nothing of it changes; so where 10 or 11 made it drop, a badge that is green
--- stays green up to the limit after the last that was heard, and no longer
-unfoldable pub onlyScraps : LineAct → Bool
-onlyScraps (Links hold link time) = false
-onlyScraps (Hears hold scrap allowed time) = true
+-- WHAT DROPS. A line drops exactly if an arrival was refused, with 10 and 11 too, and no connect was accepted since: by its events and their answers alone
+unfoldable pub refusedSince : Bool → List (Event × ℕ) → Bool
+refusedSince b [] = b
+refusedSince b (p ∷ ps) = refusedSince (cond (isConnect (p .0)) (b && not (accepted (p .1))) (b || not (accepted (p .1)))) ps
 
+abbrev pub LinesDrop : Type 0
+LinesDrop =
+    (x : Lined) (acts : List LineAct) → runLine x acts .line .dropping ≡ refusedSince (x .line .dropping) (trace (stateOn x) (writtenLine x acts))
+
+-- and while it drops nothing of it changes, whatever scraps and refused connects come
 abbrev pub DropsAll : Type 0
-DropsAll = (x : Lined) (acts : List LineAct) → x .line .dropping ≡ true → T (all onlyScraps acts) → runLine x acts ≡ x
+DropsAll = (x : Lined) (acts : List LineAct) → x .line .dropping ≡ true → NoConnect x acts → runLine x acts ≡ x
 
+-- WHAT THAT DOES TO THE BADGE. After 10, which leaves the feed, a badge that is green stays green: exactly up to the limit after the last that was heard
 abbrev pub GreenToTheLimit : Type 0
 GreenToTheLimit =
-    (x : Lined) (acts : List LineAct) (time : ℕ) → x .line .dropping ≡ true → T (all onlyScraps acts) → isGreen (stateOn (runLine x acts)) time ≡ true
-    → (x .line .feed .heard ≤ time) × (time ≤ x .line .feed .heard + x .line .feed .limit)
+    (x : Lined) (acts : List LineAct) (moment time : ℕ) → x .line .dropping ≡ true → NoConnect x acts → isGreen (stateOn x) moment ≡ true
+    → isGreen (stateOn (runLine x acts)) time ≡ (leb (x .line .feed .heard) time && leb time (x .line .feed .heard + x .line .feed .limit))

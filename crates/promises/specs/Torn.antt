@@ -26,7 +26,7 @@ use Rattle.promises.specs.Scraps.{
   linedIn,
   scrapped,
   linked,
-  Seen,
+  View,
   scraps,
   LineAct,
   Links,
@@ -38,12 +38,12 @@ use Rattle.promises.specs.Mornings.{wordsOfOne}
 use Rattle.promises.specs.Repaints.{session}
 
 -- the bytes from one on, each one more than the last; a holding buffer of n bytes with nothing of ours in it, from its k-th byte on; all of it
-unfoldable pub rising : ℕ → ℕ → List ℕ
-rising zero from = []
-rising (suc n) from = from ∷ rising n (from + 1)
+unfoldable pub climbing : ℕ → ℕ → List ℕ
+climbing zero from = []
+climbing (suc n) from = from ∷ climbing n (from + 1)
 
 unfoldable pub own : ℕ → ℕ → List ℕ
-own n k = rising (n - k) (128 + k)
+own n k = climbing (n - k) (128 + k)
 
 unfoldable pub room : ℕ → List ℕ
 room n = own n 0
@@ -415,8 +415,8 @@ connect name l hold link time answer l′ =
     let r : Linked = links (linked (on l) hold link time) l hold in
     record { name = name; holds = eqb (r .answer) answer && sameLine (r .line) l′ }
 
-unfoldable pub connects : List Check
-connects =
+unfoldable pub reconnects : List Check
+reconnects =
     connect "10, and bytes wait" (torn (fed Live) 5) (room 64) Fresh 9 10 (torn (fed Live) 5)
     ∷ connect "10 while dropping" (line (fed Live) 5 true) (room 64) Fresh 9 10 (line (fed Live) 5 true)
     ∷ connect "10 before 20" (torn spoilt 5) (room 64) Resuming 9 10 (torn spoilt 5)
@@ -534,7 +534,7 @@ pub record Shown : Type 0 where
 
 unfoldable pub cut : String → List ℕ → List (List ℕ) → ℕ → Shown → Check
 cut name hold ss time told =
-    let y : Seen = scraps [] (on (torn (feed WaitKey 1 7 10 true true) 0)) hold ss time in
+    let y : View = scraps [] (on (torn (feed WaitKey 1 7 10 true true) 0)) hold ss 200 time in
     record {
       name = name;
       holds =
