@@ -7,7 +7,7 @@ use mathlib.Core.List.{List, [], _∷_, _++_}
 use lib.Dec.{T, eqb, eqb→eq}
 use lib.ListN.{length, getD, set}
 use Rattle.ground.specs.Choice.{oneOf, pick, first, all}
-use Rattle.ground.proofs.Bools.{both, join}
+use Rattle.ground.proofs.Bools.{both, join, two, pair}
 
 -- tests in order, each of which has the property beside it or does not pass: what is picked has the property
 pub first-may : {A : Type 0} (g : A → Bool) (ts : List (Bool × A)) (other : A)
@@ -36,6 +36,15 @@ each-has P (k ∷ ks) p n h = go (eqb n k) refl h (each-has P ks (p .1) n)
     go : (b : Bool) → eqb n k ≡ b → T (b || oneOf n ks) → (T (oneOf n ks) → P n) → P n
     go true e h rest = subst P (sym (eqb→eq n k (subst (λ (x : Bool). T x) (sym e) tt))) (p .0)
     go false e h rest = rest h
+
+-- what all of one list behind another pass, all of each pass
+pub all-parts : {A : Type 0} (f : A → Bool) (xs ys : List A) → T (all f (xs ++ ys)) → T (all f xs) × T (all f ys)
+unfolding all
+all-parts f [] ys h = (tt, h)
+all-parts f (x ∷ xs) ys h =
+    let k = two (f x) (all f (xs ++ ys)) h in
+    let r = all-parts f xs ys (k .1) in
+    (pair (f x) (all f xs) (k .0) (r .0), r .1)
 
 -- the test beside the first answer that is the one asked for, and false where there is none
 abbrev pub testOf : {A : Type 0} → (A → Bool) → List (Bool × A) → Bool

@@ -286,7 +286,7 @@ unfolding promises-Tables.on promises-Tables.refused promises-Tables.firstBid pr
 promises-tables = 0
 
 unfoldable promises-torn : ℕ
-unfolding promises-Torn.climbing promises-Torn.own promises-Torn.room promises-Torn.line promises-Torn.torn promises-Torn.shut promises-Torn.sameLine promises-Torn.tells promises-Torn.quietAfter promises-Torn.quiet promises-Torn.says promises-Torn.booked promises-Torn.withStrips promises-Torn.on promises-Torn.scrap promises-Torn.hand promises-Torn.follows promises-Torn.after promises-Torn.book promises-Torn.passed promises-Torn.priced promises-Torn.beaten promises-Torn.lays promises-Torn.waits promises-Torn.byteByByte promises-Torn.singly promises-Torn.tornUnits promises-Torn.mixed promises-Torn.places promises-Torn.numbers promises-Torn.sized promises-Torn.lengths promises-Torn.over promises-Torn.limits promises-Torn.stays promises-Torn.order promises-Torn.silent promises-Torn.finishes promises-Torn.late promises-Torn.refusesOn promises-Torn.refuses promises-Torn.refusals promises-Torn.connect promises-Torn.reconnects promises-Torn.opening promises-Torn.opened promises-Torn.ran promises-Torn.early promises-Torn.tooLong promises-Torn.gap promises-Torn.again promises-Torn.beat promises-Torn.mornings promises-Torn.dark promises-Torn.spelt promises-Torn.sameSaid promises-Torn.cut promises-Torn.scrapsOf promises-Torn.goodMorning promises-Torn.loggedOn promises-Torn.allGood promises-Torn.cuttings promises-Torn.endsAt promises-Torn.leftOut promises-Torn.noSize promises-Torn.tooEarly promises-Torn.broken
+unfolding promises-Torn.climbing promises-Torn.own promises-Torn.room promises-Torn.line promises-Torn.torn promises-Torn.shut promises-Torn.sameLine promises-Torn.tells promises-Torn.quietAfter promises-Torn.quiet promises-Torn.says promises-Torn.booked promises-Torn.withStrips promises-Torn.on promises-Torn.scrap promises-Torn.hand promises-Torn.follows promises-Torn.after promises-Torn.book promises-Torn.passed promises-Torn.priced promises-Torn.beaten promises-Torn.lays promises-Torn.waits promises-Torn.byteByByte promises-Torn.singly promises-Torn.tornUnits promises-Torn.mixed promises-Torn.places promises-Torn.numbers promises-Torn.sized promises-Torn.lengths promises-Torn.over promises-Torn.limits promises-Torn.stays promises-Torn.order promises-Torn.silent promises-Torn.finishes promises-Torn.late promises-Torn.refusesOn promises-Torn.refuses promises-Torn.refusals promises-Torn.connect promises-Torn.reconnects promises-Torn.opening promises-Torn.opened promises-Torn.ran promises-Torn.early promises-Torn.tooLong promises-Torn.gap promises-Torn.again promises-Torn.beat promises-Torn.mornings promises-Torn.dark promises-Torn.spelt promises-Torn.sameSaid promises-Torn.cut promises-Torn.scrapsOf promises-Torn.goodMorning promises-Torn.loggedOn promises-Torn.allGood promises-Torn.cuttings promises-Torn.endsAt promises-Torn.leftOut promises-Torn.noSize promises-Torn.tooEarly promises-Torn.loggedOut promises-Torn.closed promises-Torn.broken
 promises-torn = 0
 
 unfoldable promises-traps : ℕ

@@ -8,7 +8,8 @@ use lib.ListN.{length}
 use lib.Dec.{T, ltb, leb, eqb}
 use borrow.Author.Tests.{not-true, eqb-true, leb-true, le-leb, le-ltb}
 use Rattle.ground.specs.Choice.{oneOf, pick, first, all}
-use Rattle.ground.proofs.Bools.{both, of-T, two}
+use Rattle.ground.proofs.Bools.{both, of-T, is-T, two, pair}
+use Rattle.ground.proofs.Choices.{all-parts}
 use Rattle.slots.specs.Layout as table
 use Rattle.slots.specs.Layout.{countIn, clearedIn, withCode}
 use Rattle.slots.proofs.Codes as codes
@@ -504,10 +505,6 @@ module _ (n : Sizes) (s : State) (h : History) (w : Talk) (k : Run n s h) (i : G
       let p₂ = both (a && b) c (p₃ .0) in
       message seq internal m (rw (i .next) (p₂ .0)) (not-true (wrongSize m) (p₂ .1)) (p₃ .1) (p₄ .1) (p₅ .1)
 
-pair : (a b : Bool) → a ≡ true → T b → T (a && b)
-pair true b e t = t
-pair false b e t = absurd (true≢false (sym e))
-
 module _ (limit : ℕ) (n : Sizes) where
   run-on : (s : State) (h : History) (e : Event) → T (handsBytes e) → Run n s h → Run n (after s e) (note h e (outcome s e .given .answer))
   run-on s h e b k = record {
@@ -535,7 +532,7 @@ module _ (limit : ℕ) (n : Sizes) where
       let t =
       on-talk es (after s e) (note h e (outcome s e .given .answer)) (saidNews (news e) (timeOf e) w)
       (run-on s h e (c .0) k) (r .1) (c .1) (p .1) in
-      (pair (accepted (outcome s e .given .answer)) _ (r .0) (t .0), t .1)
+      (pair (accepted (outcome s e .given .answer)) _ (is-T _ (r .0)) (t .0), t .1)
 
   -- a part of it
   part-fair : (es fs : List Event) (w : Talk) → T (fairly limit (slotsOf n) w (es ++ fs)) → T (fairly limit (slotsOf n) w es)
@@ -543,14 +540,7 @@ module _ (limit : ℕ) (n : Sizes) where
   part-fair [] fs w f = tt
   part-fair (e ∷ es) fs w f =
       let p = two (fair limit (slotsOf n) w e) (fairly limit (slotsOf n) (saidNews (news e) (timeOf e) w) (es ++ fs)) f in
-      pair (fair limit (slotsOf n) w e) _ (of-T _ (p .0)) (part-fair es fs (saidNews (news e) (timeOf e) w) (p .1))
-
-part-bytes : (es fs : List Event) → Bytes (es ++ fs) → Bytes es
-unfolding all
-part-bytes [] fs b = tt
-part-bytes (e ∷ es) fs b =
-    let p = two (handsBytes e) (all handsBytes (es ++ fs)) b in
-    pair (handsBytes e) _ (of-T _ (p .0)) (part-bytes es fs (p .1))
+      pair (fair limit (slotsOf n) w e) _ (p .0) (part-fair es fs (saidNews (news e) (timeOf e) w) (p .1))
 
 -- a fresh connect begins it
 begun : (s : State) (h : History) (time : ℕ) → ltb time (s .feed .heard) ≡ false
@@ -582,7 +572,7 @@ goodMorning limit n es time part rest be bc t f =
       λ asked o p q.
           rw (run-append es (Connect Fresh time ∷ part) (start limit n))
           (lit (run s₁ part) (recall h₁ (trace s₁ part)) (talk (begins time) part) l asked
-          (on-talk l n part s₁ h₁ (begins time) k₁ g₁ (part-bytes part rest bc) (part-fair l n part rest (begins time) f) .1)
+          (on-talk l n part s₁ h₁ (begins time) k₁ g₁ (all-parts handsBytes part rest bc .0) (part-fair l n part rest (begins time) f) .1)
           (bound limit n es time part) (new-limit limit) o p q),
     )
   where

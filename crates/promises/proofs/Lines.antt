@@ -8,8 +8,8 @@ use lib.ListN.{length, take, drop}
 use lib.Dec.{T, ltb, leb, eqb}
 use borrow.Author.Tests.{leb-true, ne-eqb}
 use Rattle.ground.specs.Choice.{oneOf, all, first}
-use Rattle.ground.proofs.Bools.{two, pair, both, of-T, is-T, split}
-use Rattle.ground.proofs.Choices.{each-has}
+use Rattle.ground.proofs.Bools.{no-second, two, pair, both, of-T, is-T, split}
+use Rattle.ground.proofs.Choices.{each-has, all-parts}
 use Rattle.wire.specs.Number.{bytesOnly}
 use Rattle.ladder.proofs.Keeps.{bytes-drop}
 use Rattle.ladder.proofs.Orders.{all-append, all-take, all-drop}
@@ -303,10 +303,6 @@ and-true : (b : Bool) → (b && true) ≡ b
 and-true true = refl
 and-true false = refl
 
-and-false : (b : Bool) → (b && false) ≡ false
-and-false true = refl
-and-false false = refl
-
 -- an accepted connect is answered 0
 pub zero-only : (x : Lined) (hold : List ℕ) (link : Link) (time : ℕ) → accepted (linked x hold link time .answer) ≡ true → linked x hold link time .answer ≡ 0
 zero-only x hold link time =
@@ -333,7 +329,7 @@ module _ (x : Lined) (hold : List ℕ) (link : Link) (time : ℕ) where
       by false a b e = rw (links-refused x hold link time a, ne-eqb (g′ .answer) 22 (never-22 x hold link time), a) (sym (and-true (x .line .dropping)), λ h. refl)
       by true a true e = rw (links-short x hold link time a e) (refl, λ h. refl)
       by true a false e =
-          rw (links-made x hold link time a e, ne-eqb (g′ .answer) 22 (never-22 x hold link time), a) (sym (and-false (x .line .dropping)), λ h. absurd h)
+          rw (links-made x hold link time a e, ne-eqb (g′ .answer) 22 (never-22 x hold link time), a) (sym (no-second (x .line .dropping) false refl), λ h. absurd h)
 
 hears-dropped : (x : Lined) (hold scrap : List ℕ) (allowed time : ℕ) → x .line .dropping ≡ true → linedIn (scrapped x hold scrap allowed time) ≡ x
 hears-dropped x hold scrap zero time d = unfold through in refl
@@ -358,14 +354,6 @@ act-stays x (Hears hold scrap allowed time) d h = unfold afterLine in hears-drop
 
 abbrev NoneIn : List (Event × ℕ) → Type 0
 NoneIn ps = T (all (λ p. not (connects p)) ps)
-
-none-two : (p q : List (Event × ℕ)) → NoneIn (p ++ q) → NoneIn p × NoneIn q
-unfolding all
-none-two [] q h = (tt, h)
-none-two (a ∷ p) q h =
-    let k = two (not (connects a)) (all (λ p. not (connects p)) (p ++ q)) h in
-    let r = none-two p q (k .1) in
-    (pair (not (connects a)) (all (λ p. not (connects p)) p) (k .0) (r .0), r .1)
 
 -- no connect in a scrap, nor where one is not accepted
 arrives-none : (es : List Event) → T (all (λ e. not (isConnect e)) es) → (s : State) → NoneIn (trace s es)
@@ -430,7 +418,7 @@ unfolding runLine writtenLine
 dropsAll x [] d h = refl
 dropsAll x (a ∷ acts) d h =
     let rest : List Event = writtenLine (afterLine x a) acts in
-    let k = none-two (trace (stateOn x) (lineEvents x a)) (trace (run (stateOn x) (lineEvents x a)) rest) (subst NoneIn (trace-two (lineEvents x a) rest (stateOn x)) h) in
+    let k = all-parts (λ p. not (connects p)) (trace (stateOn x) (lineEvents x a)) (trace (run (stateOn x) (lineEvents x a)) rest) (subst NoneIn (trace-two (lineEvents x a) rest (stateOn x)) h) in
     let e = act-stays x a d (k .0) in
     dropsAll (afterLine x a) acts (ap (λ (y : Lined). y .line .dropping) e ∙ d) (subst (λ (s : State). NoneIn (trace s rest)) (sym (act-written x a)) (k .1)) ∙ e
 

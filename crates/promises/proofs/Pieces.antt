@@ -9,6 +9,7 @@ use lib.ListN.{length, drop}
 use lib.Dec.{T, ltb}
 use Rattle.ground.specs.Choice.{first, all}
 use Rattle.ground.proofs.Bools.{two}
+use Rattle.ground.proofs.Choices.{all-parts}
 use Rattle.wire.specs.Units.{unitOf}
 use Rattle.wire.specs.declared.Unit.the-variants as unit
 use Rattle.feed.specs.Feeds.{deaf}
@@ -73,20 +74,6 @@ calls-append (t ∷ ts) us s a =
     ap (preceded (outcome s (Arrive a t) .given .answer ∷ []))
     (calls-append ts us (after s (Arrive a t)) (drop (outcome s (Arrive a t) .given .used) a))
 
-all-front : (xs ys : List ℕ) → T (all accepted (xs ++ ys)) → T (all accepted xs)
-unfolding all
-all-front [] ys h = tt
-all-front (x ∷ xs) ys h = go (accepted x) h (all-front xs ys)
-  where
-    go : (b : Bool) → T (b && all accepted (xs ++ ys)) → (T (all accepted (xs ++ ys)) → T (all accepted xs)) → T (b && all accepted xs)
-    go true h k = k h
-    go false h k = h
-
-all-back : (xs ys : List ℕ) → T (all accepted (xs ++ ys)) → T (all accepted ys)
-unfolding all
-all-back [] ys h = h
-all-back (x ∷ xs) ys h = all-back xs ys (two (accepted x) _ h .1)
-
 in-pieces : (ps : List (List ℕ × List ℕ)) (s : State) (kept : List ℕ) → T (all accepted (callsIn s kept ps .answers))
     → calls s (kept ++ stream ps) (times ps) ≡ callsIn s kept ps
 unfolding callsIn stream times calls
@@ -94,11 +81,11 @@ in-pieces [] s kept h = λ i. record { state = s; bytes = append-nil kept i; ans
 in-pieces (p ∷ ps) s kept h =
     let one : Left = calls s (kept ++ p .0) (p .1) in
     let rest : Left = callsIn (one .state) (one .bytes) ps in
-    let e : calls s ((kept ++ p .0) ++ stream ps) (p .1) ≡ longer (stream ps) one = calls-more (p .1) s (kept ++ p .0) (stream ps) (all-front (one .answers) (rest .answers) h) in
+    let e : calls s ((kept ++ p .0) ++ stream ps) (p .1) ≡ longer (stream ps) one = calls-more (p .1) s (kept ++ p .0) (stream ps) (all-parts accepted (one .answers) (rest .answers) h .0) in
     ap (λ (l : List ℕ). calls s l (p .1 ++ times ps)) (sym (append-assoc kept (p .0) (stream ps)))
     ∙ calls-append (p .1) (times ps) s ((kept ++ p .0) ++ stream ps)
     ∙ ap (λ (r : Left). preceded (r .answers) (calls (r .state) (r .bytes) (times ps))) e
-    ∙ ap (preceded (one .answers)) (in-pieces ps (one .state) (one .bytes) (all-back (one .answers) (rest .answers) h))
+    ∙ ap (preceded (one .answers)) (in-pieces ps (one .state) (one .bytes) (all-parts accepted (one .answers) (rest .answers) h .1))
 
 pub pieces : P.Pieces
 pieces s ps h = in-pieces ps s [] h

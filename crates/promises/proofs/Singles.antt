@@ -9,7 +9,7 @@ use lib.Seq.{drop-drop}
 use lib.Dec.{T, ltb}
 use borrow.Author.Tests.{le-ltb, ltb-false}
 use Rattle.ground.specs.Choice.{oneOf, all, first}
-use Rattle.ground.proofs.Bools.{two, is-T, of-T}
+use Rattle.ground.proofs.Bools.{no-second, two, is-T, of-T}
 use Rattle.ground.proofs.Choices.{first-skips}
 use Rattle.wire.specs.Number.{field, bytesOnly}
 use Rattle.wire.specs.Units.{unitOf, messageIn}
@@ -306,11 +306,7 @@ never-long : (r w : ℕ) (s : List ℕ) → S.longest ≤ r → w ≤ r → T (b
 unfolding look exceeds
 never-long r w s l h b e =
     let f : field 0 2 (drop 20 s) < 65536 = field-below 0 2 (drop 20 s) (bytes-drop 20 s b) in
-    never-asked (unitOf s) (rw (le-ltb r (fullLength s) (omega (arith, f)), no-and (isSized s), le-ltb r 22 (omega arith), le-ltb r w h) at e)
-  where
-    no-and : (z : Bool) → (z && false) ≡ false
-    no-and true = refl
-    no-and false = refl
+    never-asked (unitOf s) (rw (le-ltb r (fullLength s) (omega (arith, f)), no-second (isSized s) false refl, le-ltb r 22 (omega arith), le-ltb r w h) at e)
 
 module _ (s : List ℕ) (t : ℕ) where
   never-overruns : (k : ℕ) (y : Hearing) → y .heard .line .dropping ≡ false → S.longest ≤ length (y .hold) → y .heard .line .held ≤ length (y .hold) → T (bytesOnly (flow [] s y .waiting))

@@ -594,6 +594,19 @@ noSize = take 52 session ++ header 22 3 1 ++ (0 ∷ 0 ∷ []) ++ heartbeat
 unfoldable pub tooEarly : Shown
 tooEarly = record { said = (Arrive (unit 1 0 sendKey) 9, 10) ∷ []; feed = feed WaitKey 1 7 10 true true; words = oneBid; waiting = []; dropping = true }
 
+-- a logout, a heartbeat behind it, and 5 bytes more
+unfoldable pub loggedOut : List ℕ
+loggedOut = take 52 session ++ unit 3 0 (logout 6) ++ heartbeat ++ take 5 book
+
+unfoldable pub closed : Shown
+closed = record {
+  said = loggedOn ++ ((Arrive (unit 3 0 (logout 6)) 20, 0) ∷ (Arrive heartbeat 20, 11) ∷ []);
+  feed = feed Closed 4 0 20 true true;
+  words = replicate 64 0;
+  waiting = [];
+  dropping = true;
+}
+
 unfoldable pub broken : List Check
 broken =
     cut "22 in one piece" (room 55) (goodMorning ∷ []) 20 (endsAt (Overrun 20) 22)
@@ -602,6 +615,8 @@ broken =
     ∷ cut "13 in scraps of 7 bytes" (room 64) (scrapsOf 7 20 leftOut) 20 (endsAt (Arrive (unit 4 1 (message 60 [])) 20) 13)
     ∷ cut "12 of MsgSize 0 in one piece" (room 64) (noSize ∷ []) 20 (endsAt (Arrive (header 22 3 1 ++ (0 ∷ 0 ∷ [])) 20) 12)
     ∷ cut "12 of MsgSize 0 byte by byte" (room 64) (scrapsOf 1 94 noSize) 20 (endsAt (Arrive (header 22 3 1 ++ (0 ∷ 0 ∷ [])) 20) 12)
+    ∷ cut "11 in one piece" (room 64) (loggedOut ∷ []) 20 closed
+    ∷ cut "11 in scraps of 10 bytes" (room 64) (scrapsOf 10 10 loggedOut) 20 closed
     ∷ cut "10 in one piece" (room 64) (goodMorning ∷ []) 9 tooEarly
     ∷ cut "10 in scraps of 10 bytes" (room 64) (scrapsOf 10 13 goodMorning) 9 tooEarly
     ∷ []
