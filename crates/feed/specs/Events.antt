@@ -26,8 +26,8 @@ pub record State : Type 0 where
   pub feed : Feed
   pub tables : Tables
 
--- a connect; an arrival of bytes; "the two numbers and a message already cut"; document 02, request 5: what comes is longer than the holding buffer.
--- Each at a time
+-- a connect; an arrival of bytes; "the two numbers and a message already cut"; document 02, request 5: 22 is due of what waits in a holding buffer and
+-- comes. Each at a time
 pub data Event : Type 0 where
   Connect : (link : Link) (time : ℕ) → Event
   Arrive : (bytes : List ℕ) (time : ℕ) → Event

@@ -15,7 +15,7 @@ use Rattle.feed.specs.Steps.{accepted, stateOf, outOf, outcome}
 use Rattle.feed.specs.declared.Given.{Given}
 use Rattle.feed.specs.declared.Link.{Link}
 use Rattle.lines.specs.Looks.{look}
-use Rattle.lines.specs.Scraps.{Kept, kept, Hearing, hearing, behind, silent, waits, refused, gathered, movedUp, settled, withTables, looked, once, goesOn, links}
+use Rattle.lines.specs.Scraps.{Holding, holding, Hearing, hearing, behind, silent, waits, refused, gathered, movedUp, settled, withTables, looked, once, goesOn, links}
 use Rattle.lines.specs.declared.Look.{Look}
 use Rattle.lines.specs.declared.Look.the-variants.{Waits, TooLong, Finished}
 use Rattle.lines.specs.declared.Line.{Line}
@@ -60,29 +60,29 @@ module _ (l : Line) (hold : List ℕ) (link : Link) (time : ℕ) (g : Given)
 
 -- all of a scrap waits
 pub waits-is : (l : Line) (h s g : List ℕ) (r : Heard) → l .held + length s ≤ length h → g ≡ paste h (l .held) s (length s)
-    → r ≡ silent (length s) (record { feed = l .feed; held = l .held + length s; dropping = false }) → kept r g ≡ waits l h s
+    → r ≡ silent (length s) (record { feed = l .feed; held = l .held + length s; dropping = false }) → holding r g ≡ waits l h s
 waits-is l h s g r a p e = rw (e, put-behind (l .held) h s (omega arith) g p)
 
 -- a unit has been through the feed
 module _ (g : Given) (n w k : ℕ) (h : List ℕ) where
   pub settle-taken : (h′ : List ℕ) (u v : ℕ) → g .answer ≤ 2 → h′ ≡ movedUp n w h → u ≡ n - w → v ≡ w - n
-      → kept (record { said = true; answer = g .answer; accepted = 1; used = u; line = record { feed = g .feed; held = v; dropping = false } }) h′ ≡ settled g n w k h
+      → holding (record { said = true; answer = g .answer; accepted = 1; used = u; line = record { feed = g .feed; held = v; dropping = false } }) h′ ≡ settled g n w k h
   unfolding settled
   settle-taken h′ u v a p q r = rw (le-leb (g .answer) 2 a, p, q, r)
 
-  pub settle-refused : (r : Heard) → 2 < g .answer → r ≡ refused g k → kept r h ≡ settled g n w k h
+  pub settle-refused : (r : Heard) → 2 < g .answer → r ≡ refused g k → holding r h ≡ settled g n w k h
   unfolding settled
   settle-refused r a e = rw (lt-leb (g .answer) 2 a, e)
 
 module _ (l : Line) (t u : Tables) (h s : List ℕ) (n time : ℕ) (g : Given) (r : Heard) (h′ : List ℕ) where
-  pub finish-straight : l .held ≡ 0 → outOf g u ≡ outcome (stateOf (l .feed) t) (Arrive (take n s) time) → kept r h′ ≡ settled g n 0 (length s) h
+  pub finish-straight : l .held ≡ 0 → outOf g u ≡ outcome (stateOf (l .feed) t) (Arrive (take n s) time) → holding r h′ ≡ settled g n 0 (length s) h
       → hearing r u h′ ≡ looked (Finished n) l t h s time
   unfolding looked gathered
   finish-straight z e p =
       rw (ap (λ (k : ℕ). ltb 0 k) z, ap (λ (k : ℕ). take n (behind k h s)) z, ← e, ap (λ (k : ℕ). settled g n k (length s) h) z, ← p)
 
   pub finish-gathered : (G : List ℕ) → l .held ≤ length h → (l .held ≡ 0 → ⊥) → n ≤ l .held + length s → G ≡ gathered n (l .held) h s
-      → outOf g u ≡ outcome (stateOf (l .feed) t) (Arrive (take n G) time) → kept r h′ ≡ settled g n (l .held) (length s) G
+      → outOf g u ≡ outcome (stateOf (l .feed) t) (Arrive (take n G) time) → holding r h′ ≡ settled g n (l .held) (length s) G
       → hearing r u h′ ≡ looked (Finished n) l t h s time
   unfolding looked
   finish-gathered G a z k q e p = rw (← q, ← gathered-front (l .held) h s a n G z k q, ← e, ← p)
@@ -98,9 +98,9 @@ module _ (l : Line) (t : Tables) (h s : List ℕ) (time : ℕ) where
     unfolding once
     looks = cond-no (l .dropping) _ _ d ∙ rw (← a)
 
-    pub once-waits : (r : Heard) (h′ : List ℕ) → v ≡ Waits → kept r h′ ≡ waits l h s → hearing r t h′ ≡ once l t h s time
+    pub once-waits : (r : Heard) (h′ : List ℕ) → v ≡ Waits → holding r h′ ≡ waits l h s → hearing r t h′ ≡ once l t h s time
     unfolding looked
-    once-waits r h′ e p = rw (looks, e) (ap (λ (k : Kept). withTables k t) p)
+    once-waits r h′ e p = rw (looks, e) (ap (λ (k : Holding). withTables k t) p)
 
     pub once-long : (r : Heard) (g : Given) → v ≡ TooLong → ((x : Tables) → record { given = g; tables = x } ≡ outcome (record { feed = l .feed; tables = x }) (Overrun time))
         → r ≡ refused g (length s) → hearing r t h ≡ once l t h s time

@@ -16,7 +16,7 @@ use Rattle.feed.specs.Steps.{accepted, lent, stateOf, outcome}
 use Rattle.feed.specs.declared.Given.{Given}
 use Rattle.feed.proofs.Following.{overrun-not}
 use Rattle.lines.specs.Looks.{look}
-use Rattle.lines.specs.Scraps.{Kept, Hearing, hearing, behind, silent, gathered, settled, looked, once, onward, goesOn, through}
+use Rattle.lines.specs.Scraps.{Holding, Hearing, hearing, behind, silent, gathered, settled, looked, once, onward, goesOn, through}
 use Rattle.lines.specs.declared.Look.{Look}
 use Rattle.lines.specs.declared.Look.the-variants.{Waits, TooLong, Finished}
 use Rattle.lines.specs.declared.Line.{Line}
@@ -33,7 +33,7 @@ module _ (l : Line) (x : Tables) (h s : List ℕ) (time : ℕ) where
   unfolding settled goesOn
   unit-orderly n g k =
       let e : length (behind (l .held) h s) ≤ l .held + length s = rw (length-append (take (l .held) h) s, length-take (l .held) h) (omega arith) in
-      split (λ (k : Kept). Orderly s (k .heard)) (accepted (g .answer)) _ _
+      split (λ (k : Holding). Orderly s (k .heard)) (accepted (g .answer)) _ _
       (λ f. record { inside = omega (arith, e, k); counted = rw f })
       (λ f. record { inside = le-refl (length s); counted = rw f })
 

@@ -16,12 +16,12 @@ use Rattle.lines.specs.declared.Linked.{Linked}
 use Rattle.lines.specs.declared.Heard.{Heard}
 
 -- what a scrap's call hands back, with every byte of the buffer after it ..
-pub record Kept : Type 0 where
+pub record Holding : Type 0 where
   pub heard : Heard
   pub hold : List ℕ
 
-abbrev pub kept : Heard → List ℕ → Kept
-kept r hold = record { heard = r; hold = hold }
+abbrev pub holding : Heard → List ℕ → Holding
+holding r hold = record { heard = r; hold = hold }
 
 -- .. and every word of every table
 pub record Hearing : Type 0 where
@@ -45,17 +45,17 @@ abbrev pub silent : ℕ → Line → Heard
 silent used l = record { said = false; answer = 0; accepted = 0; used = used; line = l }
 
 -- "the rest waits"
-abbrev pub waits : Line → List ℕ → List ℕ → Kept
+abbrev pub waits : Line → List ℕ → List ℕ → Holding
 waits l hold scrap =
-    kept (silent (length scrap) (record { feed = l .feed; held = l .held + length scrap; dropping = false })) (laid (behind (l .held) hold scrap) hold)
+    holding (silent (length scrap) (record { feed = l .feed; held = l .held + length scrap; dropping = false })) (laid (behind (l .held) hold scrap) hold)
 
 -- a refusal: nothing waits, and "what follows a refusal is dropped", all that the scrap has left included
 abbrev pub refused : Given → ℕ → Heard
 refused g left = record { said = true; answer = g .answer; accepted = 0; used = left; line = record { feed = g .feed; held = 0; dropping = true } }
 
 -- a unit of n bytes that was accepted, where `held` bytes had waited: what it took of the scrap, and what still waits
-abbrev pub taken : Given → ℕ → ℕ → Heard
-taken g n held = record { said = true; answer = g .answer; accepted = 1; used = n - held; line = record { feed = g .feed; held = held - n; dropping = false } }
+abbrev pub acceptedUnit : Given → ℕ → ℕ → Heard
+acceptedUnit g n held = record { said = true; answer = g .answer; accepted = 1; used = n - held; line = record { feed = g .feed; held = held - n; dropping = false } }
 
 -- a unit of which a part has waited is put together in the buffer; one that lies whole in the scrap, or has waited whole, is read where it lies
 unfoldable pub gathered : ℕ → ℕ → List ℕ → List ℕ → List ℕ
@@ -65,10 +65,10 @@ gathered n held hold scrap = cond (ltb 0 held && ltb held n) (laid (take n (behi
 abbrev pub movedUp : ℕ → ℕ → List ℕ → List ℕ
 movedUp n held hold = laid (drop n (take held hold)) hold
 
-unfoldable pub settled : Given → ℕ → ℕ → ℕ → List ℕ → Kept
-settled g n held left hold = cond (accepted (g .answer)) (kept (taken g n held) (movedUp n held hold)) (kept (refused g left) hold)
+unfoldable pub settled : Given → ℕ → ℕ → ℕ → List ℕ → Holding
+settled g n held left hold = cond (accepted (g .answer)) (holding (acceptedUnit g n held) (movedUp n held hold)) (holding (refused g left) hold)
 
-abbrev pub withTables : Kept → Tables → Hearing
+abbrev pub withTables : Holding → Tables → Hearing
 withTables k x = hearing (k .heard) x (k .hold)
 
 -- "finished units go through the feed, the rest waits": one unit at most; "Answers 10 and 11 are tried only when a unit is finished or 22 is due"

@@ -14,7 +14,7 @@ ghost use mathlib.Core.Path.{_≡_};
 ghost use Prim.Native.Nat.{_+_, _-_, _≤_, _<_};
 ghost use lib.ListN.{length};
 ghost use Rattle.feed.specs.Steps.{lent};
-ghost use Rattle.lines.specs.Scraps.{kept, hearing, silent as silentOf, waits as waitsOf, refused as refusedOf, settled, looked, once as onceOf, onward as onwardOf, goesOn};
+ghost use Rattle.lines.specs.Scraps.{holding, hearing, silent as silentOf, waits as waitsOf, refused as refusedOf, settled, looked, once as onceOf, onward as onwardOf, goesOn};
 ghost use Rattle.lines.specs.Contracts.{ConnectSays, ScrapSays};
 
 // a - b, and 0 where b is more.
@@ -45,7 +45,7 @@ fn refused(given: Given, left: usize) -> Heard
 // A unit of n bytes that has been through the feed.
 fn settle(given: Given, n: usize, held: usize, left: usize, hold: &mut [u8]) -> Heard
     requires { ⌜ held ≤ length (now hold) ⌝ }
-    ensures { λ r. ⌜ kept r (now (hold .exit)) ≡ settled given n held left (now (hold .entry)) ⌝ }
+    ensures { λ r. ⌜ holding r (now (hold .exit)) ≡ settled given n held left (now (hold .entry)) ⌝ }
 {
     if given.answer <= 2 {
         move_up(hold, held, n);
@@ -83,7 +83,7 @@ impl Line {
     // All of the scrap waits.
     fn waits(self, hold: &mut [u8], scrap: &[u8]) -> Heard
         requires { ⌜ self .held + length (now scrap) ≤ length (now hold) ⌝ }
-        ensures { λ r. ⌜ kept r (now (hold .exit)) ≡ waitsOf self (now (hold .entry)) (now (scrap .entry)) ⌝ }
+        ensures { λ r. ⌜ holding r (now (hold .exit)) ≡ waitsOf self (now (hold .entry)) (now (scrap .entry)) ⌝ }
     {
         let feed = self.feed;
         let held = self.held;

@@ -262,7 +262,7 @@ unfolding promises-Runs.after promises-Runs.run promises-Runs.trace promises-Run
 promises-runs = 0
 
 unfoldable promises-scraps : ℕ
-unfolding promises-Scraps.dueEvents promises-Scraps.turnEvents promises-Scraps.units promises-Scraps.scraps promises-Scraps.onePiece promises-Scraps.isOverrun promises-Scraps.afterLine promises-Scraps.runLine promises-Scraps.lineEvents promises-Scraps.writtenLine promises-Scraps.lineBytes promises-Scraps.refusedSince
+unfolding promises-Scraps.dueEvents promises-Scraps.turnEvents promises-Scraps.units promises-Scraps.bytesIn promises-Scraps.scraps promises-Scraps.onePiece promises-Scraps.isOverrun promises-Scraps.afterLine promises-Scraps.runLine promises-Scraps.lineEvents promises-Scraps.writtenLine promises-Scraps.lineBytes promises-Scraps.refusedSince
 promises-scraps = 0
 
 unfoldable promises-section6 : ℕ

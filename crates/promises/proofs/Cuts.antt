@@ -4,7 +4,7 @@ use native.Mathlib.Omega.{arith}
 use mathlib.Core.Path.{_≡_, refl, sym, ap, _∙_}
 use mathlib.Core.Bool.{Bool, true, false, cond, not, _&&_, _||_, true≢false}
 use mathlib.Core.List.{List, [], _∷_, _++_, append-assoc, append-nil}
-use lib.ListN.{length, take, drop, length-append, length-take, length-drop}
+use lib.ListN.{length, take, drop, length-append, length-take, length-drop, take-append-drop}
 use lib.Seq.{take-at, drop-drop, drop-length, length-take-le, drop-append-le, drop-append-add}
 use lib.Dec.{ltb}
 use borrow.Author.Tests.{le-ltb, ltb-true, ltb-false}
@@ -15,7 +15,7 @@ use Rattle.feed.proofs.Following.{overrun-not}
 use Rattle.ground.proofs.Bools.{cond-same, split}
 use Rattle.wire.specs.Units.{unitOf}
 use Rattle.lines.specs.Looks.{look, exceeds, finished, isSized, fullLength}
-use Rattle.lines.specs.Scraps.{Kept, Hearing, hearing, behind, laid, gathered, movedUp, settled, looked, once, onward, goesOn, through}
+use Rattle.lines.specs.Scraps.{Holding, Hearing, hearing, behind, laid, gathered, movedUp, settled, looked, once, onward, goesOn, through}
 use Rattle.lines.specs.declared.Look.{Look}
 use Rattle.lines.specs.declared.Look.the-variants.{Waits, TooLong, Finished}
 use Rattle.lines.specs.declared.Heard.{Heard}
@@ -25,8 +25,8 @@ use Rattle.lines.proofs.Fronts.{look-waits, look-finished}
 use Rattle.lines.proofs.Courses.{onward-counts, through-on, through-ends}
 use Rattle.promises.specs.Runs.{after, answerOf, trace}
 use Rattle.promises.specs.Scraps as S
-use Rattle.promises.specs.Scraps.{Lined, stateOn, linedIn, opens, scrapped, units, scrapEvents, scrapSaid, View, view, scraps, onePiece}
-use Rattle.promises.proofs.Scraps.{On, Off, at, metAt, walk, once-is, dropped, quiet-off, spoke-goes, spoke-state, spoke-taken, units-quiet, units-on, units-off, ends, scrapWithin, scrapDropped, scrapStops, SpokeAt, waits, long, fed}
+use Rattle.promises.specs.Scraps.{Lined, stateOn, linedIn, opens, scrapped, units, scrapEvents, scrapSaid, bytesIn, View, view, scraps, onePiece}
+use Rattle.promises.proofs.Scraps.{On, Off, at, metAt, walk, once-is, dropped, quiet-off, spoke-goes, spoke-state, spoke-taken, spoke-refused, units-quiet, units-on, units-off, ends, scrapWithin, scrapDropped, scrapStops, SpokeAt, waits, long, fed}
 use Rattle.promises.proofs.Flows.{eventOf, sizeOf, isWaits, told, joined, answered, rests, pump, pump-rest, pump-go, pump-same, settles, size, later, later-on, later-off, cut, joined-size, any-size, joined-twice, dropped-rests}
 
 -- a buffer that is shorter than what waits is as good as none
@@ -164,20 +164,20 @@ module _ (S : List (Event × ℕ)) (s : List ℕ) (t : ℕ) (y : Hearing) (d : y
     fed-heard = ap (λ (z : Hearing). z .heard) (once-is (y .heard .line) (y .tables) (y .hold) left t (Finished n) d e)
 
     -- of a kept outcome: the bytes left
-    abbrev leftOf : Kept → List ℕ
+    abbrev leftOf : Holding → List ℕ
     leftOf k = take (k .heard .line .held) (k .hold) ++ drop (y .heard .used + k .heard .used) s
 
     left-is : leftOf (settled g n w (length left) G) ≡ cond (accepted (g .answer)) (drop n come) []
     unfolding settled
     left-is =
-        split (λ (k : Kept). leftOf k ≡ cond (accepted (g .answer)) (drop n come) []) (accepted (g .answer)) _ _
+        split (λ (k : Holding). leftOf k ≡ cond (accepted (g .answer)) (drop n come) []) (accepted (g .answer)) _ _
         (λ a. rest-is ∙ sym (cond-yes (accepted (g .answer)) (drop n come) [] a))
         (λ a. none-after ∙ sym (cond-no (accepted (g .answer)) (drop n come) [] a))
 
     drops-is : settled g n w (length left) G .heard .line .dropping ≡ not (accepted (g .answer))
     unfolding settled
     drops-is =
-        split (λ (k : Kept). k .heard .line .dropping ≡ not (accepted (g .answer))) (accepted (g .answer)) _ _ (λ a. sym (ap not a)) (λ a. sym (ap not a))
+        split (λ (k : Holding). k .heard .line .dropping ≡ not (accepted (g .answer))) (accepted (g .answer)) _ _ (λ a. sym (ap not a)) (λ a. sym (ap not a))
 
     pub unit-flow : flow (S ++ ((unit, answerOf (at s t y) unit) ∷ [])) s (onward s t y) ≡ told (flow S s y) unit (drop n come)
     unfolding told onward
@@ -194,7 +194,7 @@ module _ (S : List (Event × ℕ)) (s : List ℕ) (t : ℕ) (y : Hearing) (d : y
     hold-long : accepted (g .answer) ≡ true → length (onward s t y .hold) ≡ length (y .hold)
     unfolding onward settled
     hold-long a =
-        ap length (fed-hold ∙ ap (λ (k : Kept). k .hold) (cond-yes (accepted (g .answer)) _ _ a))
+        ap length (fed-hold ∙ ap (λ (k : Holding). k .hold) (cond-yes (accepted (g .answer)) _ _ a))
         ∙ moved-long w n G (rw (gathered-long w (y .hold) left (facts .0) n (facts .1) there) (facts .0))
         ∙ gathered-long w (y .hold) left (facts .0) n (facts .1) there
       where
@@ -203,7 +203,7 @@ module _ (S : List (Event × ℕ)) (s : List ℕ) (t : ℕ) (y : Hearing) (d : y
 
     held-less : accepted (g .answer) ≡ true → onward s t y .heard .line .held ≡ w - n
     unfolding onward settled
-    held-less a = ap (λ (r : Heard). r .line .held) fed-heard ∙ ap (λ (k : Kept). k .heard .line .held) (cond-yes (accepted (g .answer)) _ _ a)
+    held-less a = ap (λ (r : Heard). r .line .held) fed-heard ∙ ap (λ (k : Holding). k .heard .line .held) (cond-yes (accepted (g .answer)) _ _ a)
 
     room-kept : accepted (g .answer) ≡ true → roomAt (onward s t y) ≡ roomAt y
     unfolding room
@@ -337,7 +337,7 @@ module _ (s : List ℕ) (t : ℕ) (y : Hearing) (d : y .heard .line .dropping �
       let f = look-finished (length (y .hold)) held (behind held (y .hold) rest) n e in
       let there : n ≤ held + length rest = rw (← behind-length held (y .hold) rest (f .0)) (f .2) in
       let l = gathered-long held (y .hold) rest (f .0) n (f .1) there in
-      split (λ (k : Kept). Holds (k .hold) (k .heard .line .held)) (accepted (outcome (at s t y) (Arrive (take n (behind held (y .hold) rest)) t) .given .answer)) _ _
+      split (λ (k : Holding). Holds (k .hold) (k .heard .line .held)) (accepted (outcome (at s t y) (Arrive (take n (behind held (y .hold) rest)) t) .given .answer)) _ _
       (λ a. (moved-long held n (gathered n held (y .hold) rest) (rw l (f .0)) ∙ l, omega (arith, f .0)))
       (λ a. (l, omega arith))
 
@@ -399,6 +399,69 @@ module _ (s : List ℕ) (t : ℕ) where
       split (λ (z : Hearing). (length (z .hold) ≡ length (y .hold)) × Fitting z) (goesOn (onward s t y .heard)) _ _
       (λ o. let r = later-holds k (onward s t y) (shrinks s t y d o .1) f in (r .0 ∙ h .0, r .1))
       (λ o. (h .0, f))
+
+-- no byte is lost while it does not drop
+module _ (s : List ℕ) (t : ℕ) where
+  abbrev Goes : ℕ → Hearing → Type 0
+  Goes k y = through k s t y .heard .line .dropping ≡ false → flow [] s y .waiting ≡ bytesIn (units k s t y) ++ flow [] s (through k s t y) .waiting
+
+  module _ (k : ℕ) (y : Hearing) (d : y .heard .line .dropping ≡ false) where
+    abbrev come′ : List ℕ
+    come′ = behind (y .heard .line .held) (y .hold) (drop (y .heard .used) s)
+
+    goes-waits : look (length (y .hold)) (y .heard .line .held) come′ ≡ Waits → Goes (suc k) y
+    unfolding bytesIn
+    goes-waits e h =
+        let q = waits (y .heard .line) (y .tables) (y .hold) (drop (y .heard .used) s) t d e in
+        rw (units-quiet s t k y q, through-ends s t y k (quiet-off s t y q)) (sym (ap (λ (z : View). z .waiting) (waits-flow [] s t y d e)))
+
+    goes-unit : (n : ℕ) → look (length (y .hold)) (y .heard .line .held) come′ ≡ Finished n → accepted (answerOf (at s t y) (Arrive (take n come′) t)) ≡ true
+        → (onward s t y .heard .line .dropping ≡ false → Goes k (onward s t y)) → Goes (suc k) y
+    unfolding bytesIn
+    goes-unit n e a rest h =
+        let e′ : Event = Arrive (take n come′) t in
+        let p = fed (y .heard .line) (y .tables) (y .hold) (drop (y .heard .used) s) t n d e in
+        let o : On (onward s t y) = spoke-goes s t y e′ p ∙ a in
+        let w : flow [] s (onward s t y) .waiting ≡ drop n come′ = ap (λ (z : View). z .waiting) (unit-flow [] s t y d n e) ∙ told-waiting (flow [] s y) e′ (drop n come′) a in
+        let g : through (suc k) s t y ≡ through k s t (onward s t y) = through-on s t y k o in
+        let i = rest (spoke-taken s t y e′ p a) (sym (ap (λ (z : Hearing). z .heard .line .dropping) g) ∙ h) in
+        sym (take-append-drop n come′) ∙ ap (λ (b : List ℕ). take n come′ ++ b) (sym w ∙ i)
+        ∙ sym (append-assoc (take n come′) (bytesIn (units k s t (onward s t y))) (flow [] s (through k s t (onward s t y)) .waiting))
+        ∙ (λ j. bytesIn (sym (units-on s t k y e′ p o) j) ++ flow [] s (sym g j) .waiting)
+
+  goes-all : (k : ℕ) (y : Hearing) → y .heard .line .dropping ≡ false → Goes k y
+  goes-all zero y d h = unfold through units bytesIn in refl
+  goes-all (suc k) y d h = by (goes-all k (onward s t y)) (look (length (y .hold)) (y .heard .line .held) (behind (y .heard .line .held) (y .hold) (drop (y .heard .used) s))) refl
+    where
+      refused : (e : Event) → SpokeAt s t y e → accepted (answerOf (at s t y) e) ≡ false → ⊥
+      refused e p a =
+          true≢false (sym (ap (λ (z : Hearing). z .heard .line .dropping) (through-ends s t y k (spoke-goes s t y e p ∙ a)) ∙ spoke-refused s t y e p a) ∙ h)
+
+      by : (onward s t y .heard .line .dropping ≡ false → Goes k (onward s t y)) → (v : Look)
+          → look (length (y .hold)) (y .heard .line .held) (behind (y .heard .line .held) (y .hold) (drop (y .heard .used) s)) ≡ v
+          → flow [] s y .waiting ≡ bytesIn (units (suc k) s t y) ++ flow [] s (through (suc k) s t y) .waiting
+      by rest Waits e = goes-waits k y d e h
+      by rest TooLong e = absurd (refused (Overrun t) (long (y .heard .line) (y .tables) (y .hold) (drop (y .heard .used) s) t d e) (overrun-not (at s t y) t))
+      by rest (Finished n) e = go (accepted (answerOf (at s t y) event)) refl
+        where
+          event : Event
+          event = Arrive (take n (behind (y .heard .line .held) (y .hold) (drop (y .heard .used) s))) t
+
+          go : (b : Bool) → accepted (answerOf (at s t y) event) ≡ b → flow [] s y .waiting ≡ bytesIn (units (suc k) s t y) ++ flow [] s (through (suc k) s t y) .waiting
+          go true a = goes-unit k y d n e a rest h
+          go false a = absurd (refused event (fed (y .heard .line) (y .tables) (y .hold) (drop (y .heard .used) s) t n d e) a)
+
+-- a line that drops goes on dropping; so one that does not, did not before
+still-drops : (x : Lined) (hold scrap : List ℕ) (allowed time : ℕ) → x .line .dropping ≡ true → scrapped x hold scrap allowed time .heard .line .dropping ≡ true
+still-drops x hold scrap zero time d = unfold through in d
+still-drops x hold scrap (suc k) time d = ap (λ (z : Hearing). z .heard .line .dropping) (scrapDropped x hold scrap k time d) ∙ d
+
+pub noByteLost : S.NoByteLost
+noByteLost x hold scrap allowed time h = goes-all scrap time allowed (opens x hold) (before (x .line .dropping) refl) h
+  where
+    before : (b : Bool) → x .line .dropping ≡ b → x .line .dropping ≡ false
+    before false d = d
+    before true d = absurd (true≢false (sym (still-drops x hold scrap allowed time d) ∙ h))
 
 -- a line that drops meets nothing
 pub no-events : (x : Lined) (hold s : List ℕ) (t : ℕ) → x .line .dropping ≡ true → (k : ℕ) → units (suc k) s t (opens x hold) ≡ []

@@ -24,7 +24,7 @@ use Rattle.feed.specs.declared.Answer.the-variants.{Keep, Lose, Spoil, Skip, Ta
 use Rattle.feed.specs.declared.Given.{Given}
 use Rattle.feed.specs.declared.Link.{Link}
 use Rattle.lines.specs.Looks.{look}
-use Rattle.lines.specs.Scraps.{Kept, Hearing, behind, laid, gathered, settled, looked, once, goesOn, onward, through, links}
+use Rattle.lines.specs.Scraps.{Holding, Hearing, behind, laid, gathered, settled, looked, once, goesOn, onward, through, links}
 use Rattle.lines.specs.declared.Look.{Look}
 use Rattle.lines.specs.declared.Look.the-variants.{Waits, TooLong, Finished}
 use Rattle.lines.specs.declared.Line.{Line}
@@ -174,7 +174,7 @@ module _ (l : Line) (x : Tables) (h s : List ℕ) (t : ℕ) (p : AllBytes h) (q 
   looked-bytes TooLong = p
   looked-bytes (Finished n) =
       let g = gathered-bytes n in
-      split (λ (k : Kept). AllBytes (k .hold)) (accepted (outcome (stateOf (l .feed) x) (Arrive (take n (behind (l .held) h s)) t) .given .answer)) _ _
+      split (λ (k : Holding). AllBytes (k .hold)) (accepted (outcome (stateOf (l .feed) x) (Arrive (take n (behind (l .held) h s)) t) .given .answer)) _ _
       (λ e. laid-bytes (drop n (take (l .held) (gathered n (l .held) h s))) (gathered n (l .held) h s)
       (all-drop (λ b. ltb b 256) n (take (l .held) (gathered n (l .held) h s)) (all-take (λ b. ltb b 256) (l .held) (gathered n (l .held) h s) g)) g)
       (λ e. g)

@@ -24,7 +24,7 @@ use Rattle.feed.specs.declared.Answer.{Answer}
 use Rattle.feed.specs.declared.Answer.the-variants.{Keep, Lose}
 use Rattle.feed.proofs.Following.{overrun-not, whole-answered}
 use Rattle.lines.specs.Looks.{exceeds, finished, look}
-use Rattle.lines.specs.Scraps.{Kept, Hearing, hearing, behind, laid, silent, gathered, movedUp, settled, looked, once, onward, goesOn, through, links}
+use Rattle.lines.specs.Scraps.{Holding, Hearing, hearing, behind, laid, silent, gathered, movedUp, settled, looked, once, onward, goesOn, through, links}
 use Rattle.lines.specs.declared.Look.{Look}
 use Rattle.lines.specs.declared.Look.the-variants.{Waits, TooLong, Finished}
 use Rattle.lines.specs.declared.Line.{Line}
@@ -136,7 +136,7 @@ module _ (l : Line) (x : Tables) (h s : List ℕ) (t : ℕ) where
     abbrev g : Given
     g = outcome here unit .given
 
-    abbrev through-feed : Kept
+    abbrev through-feed : Holding
     through-feed = settled g n (l .held) (length s) (gathered n (l .held) h s)
 
     fed-heard : once l x h s t .heard ≡ through-feed .heard
@@ -149,32 +149,32 @@ module _ (l : Line) (x : Tables) (h s : List ℕ) (t : ℕ) where
 
     settled-said : through-feed .heard .said ≡ true
     unfolding settled
-    settled-said = split (λ (k : Kept). k .heard .said ≡ true) (accepted (g .answer)) _ _ (λ a. refl) (λ a. refl)
+    settled-said = split (λ (k : Holding). k .heard .said ≡ true) (accepted (g .answer)) _ _ (λ a. refl) (λ a. refl)
 
     settled-answer : through-feed .heard .answer ≡ g .answer
     unfolding settled
-    settled-answer = split (λ (k : Kept). k .heard .answer ≡ g .answer) (accepted (g .answer)) _ _ (λ a. refl) (λ a. refl)
+    settled-answer = split (λ (k : Holding). k .heard .answer ≡ g .answer) (accepted (g .answer)) _ _ (λ a. refl) (λ a. refl)
 
     settled-counted : through-feed .heard .accepted ≡ cond (accepted (g .answer)) 1 0
     unfolding settled
     settled-counted =
-        split (λ (k : Kept). k .heard .accepted ≡ cond (accepted (g .answer)) 1 0) (accepted (g .answer)) _ _
+        split (λ (k : Holding). k .heard .accepted ≡ cond (accepted (g .answer)) 1 0) (accepted (g .answer)) _ _
         (λ a. sym (cond-yes (accepted (g .answer)) 1 0 a)) (λ a. sym (cond-no (accepted (g .answer)) 1 0 a))
 
     settled-feed : through-feed .heard .line .feed ≡ g .feed
     unfolding settled
-    settled-feed = split (λ (k : Kept). k .heard .line .feed ≡ g .feed) (accepted (g .answer)) _ _ (λ a. refl) (λ a. refl)
+    settled-feed = split (λ (k : Holding). k .heard .line .feed ≡ g .feed) (accepted (g .answer)) _ _ (λ a. refl) (λ a. refl)
 
     settled-taken : accepted (g .answer) ≡ true → through-feed .heard .line .dropping ≡ false
     unfolding settled
-    settled-taken a = ap (λ (k : Kept). k .heard .line .dropping) (cond-yes (accepted (g .answer)) _ _ a)
+    settled-taken a = ap (λ (k : Holding). k .heard .line .dropping) (cond-yes (accepted (g .answer)) _ _ a)
 
     settled-refused : accepted (g .answer) ≡ false
         → (through-feed .heard .used ≡ length s) × (through-feed .heard .line .held ≡ 0) × (through-feed .heard .line .dropping ≡ true)
     unfolding settled
     settled-refused a =
         let k = cond-no (accepted (g .answer)) _ _ a in
-        (ap (λ (k : Kept). k .heard .used) k, ap (λ (k : Kept). k .heard .line .held) k, ap (λ (k : Kept). k .heard .line .dropping) k)
+        (ap (λ (k : Holding). k .heard .used) k, ap (λ (k : Holding). k .heard .line .held) k, ap (λ (k : Holding). k .heard .line .dropping) k)
 
     pub fed : Spoke l x h s t unit
     unfolding dueEvents after
@@ -198,7 +198,7 @@ module _ (l : Line) (x : Tables) (h s : List ℕ) (t : ℕ) where
   looked-held Waits = omega arith
   looked-held TooLong = omega arith
   looked-held (Finished n) =
-      split (λ (k : Kept). k .heard .line .held ≤ l .held + k .heard .used) (accepted (outcome here (Arrive (take n come) t) .given .answer)) _ _
+      split (λ (k : Holding). k .heard .line .held ≤ l .held + k .heard .used) (accepted (outcome here (Arrive (take n come) t) .given .answer)) _ _
       (λ a. omega arith) (λ a. omega arith)
 
   pub once-held : once l x h s t .heard .line .held ≤ l .held + once l x h s t .heard .used
@@ -694,7 +694,7 @@ module _ (l : Line) (x : Tables) (h s : List ℕ) (t : ℕ) (w : l .held ≡ 0) 
       λ i. laid (take (w i) h ++ z i) h
   looked-copies TooLong e = refl
   looked-copies (Finished n) e =
-      split (λ (k : Kept). k .hold ≡ h) (accepted (outcome (stateOf (l .feed) x) (Arrive (take n (behind (l .held) h s)) t) .given .answer)) _ _
+      split (λ (k : Holding). k .hold ≡ h) (accepted (outcome (stateOf (l .feed) x) (Arrive (take n (behind (l .held) h s)) t) .given .answer)) _ _
       (λ a. moves-none n (gathered n (l .held) h s) ∙ gathers-none n) (λ a. gathers-none n)
 
   pub once-copies : once l x h s t .heard .line .held ≡ 0 → once l x h s t .hold ≡ h
@@ -709,7 +709,7 @@ module _ (l : Line) (x : Tables) (h s : List ℕ) (t : ℕ) (w : l .held ≡ 0) 
   looked-empties Waits = λ e. absurd (true≢false (sym e))
   looked-empties TooLong = λ e. refl
   looked-empties (Finished n) =
-      split (λ (k : Kept). goesOn (k .heard) ≡ true → k .heard .line .held ≡ 0) (accepted (outcome (stateOf (l .feed) x) (Arrive (take n (behind (l .held) h s)) t) .given .answer)) _ _
+      split (λ (k : Holding). goesOn (k .heard) ≡ true → k .heard .line .held ≡ 0) (accepted (outcome (stateOf (l .feed) x) (Arrive (take n (behind (l .held) h s)) t) .given .answer)) _ _
       (λ a e. omega (arith, w)) (λ a e. refl)
 
   pub once-empties : goesOn (once l x h s t .heard) ≡ true → once l x h s t .heard .line .held ≡ 0

@@ -181,7 +181,7 @@ FramesSound =
     → (all sound (slotsIn books (endActs limit n acts .tables .books)) ≡ true)
     × (all strip.sound (slotsIn strips (endActs limit n acts .tables .strips)) ≡ true)
 
--- THE MORNING OF THE INCIDENT. After a frame whose last answer is 12 to 18 or 22 the badge is not green at any time, whatever comes, in frames or not,
+-- THE MORNING OF THE INCIDENT. After a frame whose last answer is 12 to 18 the badge is not green at any time, whatever comes, in frames or not,
 -- as long as no connect is accepted
 abbrev pub FrameStaysDark : Type 0
 FrameStaysDark =

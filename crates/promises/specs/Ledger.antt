@@ -14,7 +14,8 @@ use Rattle.feed.specs.declared.Status.the-variants.{Opens, Refills, Stays, Clos
 use Rattle.promises.specs.Runs.{trace, History, noHistory, note}
 
 pub record Ledger : Type 0 where
-  -- the SeqNums of the counted messages that came since the last accepted connect, in their order, but those that came "before the last heard" (10)
+  -- the SeqNums of the counted messages that came since the last accepted connect, in their order, but those that came "before the last heard" (10);
+  -- what was too long for a holding buffer (22), and what a line drops, is no message here
   pub came : List ℕ
   -- the SeqNums of those of them that were accepted: answered 0, 1 or 2
   pub met : List ℕ

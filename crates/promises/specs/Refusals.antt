@@ -9,7 +9,7 @@ use Rattle.feed.specs.Steps.{Outcome}
 use Rattle.feed.specs.declared.Phase.the-variants.{Lost}
 use Rattle.feed.specs.declared.Feed.{Feed}
 
--- the answers of a connect, of an arrival of bytes, of a message already cut, which is never More, and of what is longer than the holding buffer
+-- the answers of a connect, of an arrival of bytes, of a message already cut, which is never More, and where 22 is due
 unfoldable pub answersTo : Event → List ℕ
 answersTo (Connect link time) = 10 ∷ 20 ∷ 0 ∷ []
 answersTo (Arrive bytes time) = 10 ∷ 11 ∷ 3 ∷ 12 ∷ 13 ∷ 14 ∷ 1 ∷ 15 ∷ 18 ∷ 17 ∷ 16 ∷ 2 ∷ 0 ∷ []

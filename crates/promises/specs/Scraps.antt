@@ -167,6 +167,23 @@ ScrapHolds =
     → let y : Hearing = scrapped x hold scrap allowed time in
     (length (y .hold) ≡ length hold) × (x .line .held ≤ length hold → y .heard .line .held ≤ length hold)
 
+-- "finished units go through the feed, the rest waits": no byte is lost. While a line does not drop, what waited and came is the units that went through
+-- the feed, one behind the other, then what waits, and what is left of the scrap
+unfoldable pub bytesIn : List Event → List ℕ
+bytesIn [] = []
+bytesIn (Connect link time ∷ es) = bytesIn es
+bytesIn (Arrive bytes time ∷ es) = bytes ++ bytesIn es
+bytesIn (Cut seq internal m time ∷ es) = bytesIn es
+bytesIn (Overrun time ∷ es) = bytesIn es
+
+abbrev pub NoByteLost : Type 0
+NoByteLost =
+    (x : Lined) (hold scrap : List ℕ) (allowed time : ℕ)
+    → let y : Hearing = scrapped x hold scrap allowed time in
+    y .heard .line .dropping ≡ false
+    → behind (x .line .held) hold scrap
+    ≡ bytesIn (scrapEvents x hold scrap allowed time) ++ behind (y .heard .line .held) (y .hold) (drop (y .heard .used) scrap)
+
 -- nothing waits before it or after it: no byte of the buffer is written
 abbrev pub NothingCopied : Type 0
 NothingCopied =
@@ -270,8 +287,7 @@ ScrapIsFrame =
     × (f .frame .accepted ≡ y .heard .accepted)
     × (y .heard .said ≡ true → f .frame .answer ≡ y .heard .answer)
     × (y .heard .said ≡ false → (allowed ≡ 0 → ⊥) → T (oneOf (f .frame .answer) (3 ∷ 10 ∷ 11 ∷ [])))
-    × (y .heard .line .dropping ≡ false
-    → take (y .heard .line .held) (y .hold) ++ drop (y .heard .used) scrap ≡ drop (f .frame .used) (behind (x .line .held) hold scrap))
+    × (y .heard .line .dropping ≡ false → behind (y .heard .line .held) (y .hold) (drop (y .heard .used) scrap) ≡ drop (f .frame .used) (behind (x .line .held) hold scrap))
 
 -- and with a buffer for the longest unit, of 20 + 65,535 bytes, 22 is never due of bytes
 abbrev pub longest : ℕ
@@ -333,7 +349,7 @@ abbrev pub LineWrittenBytes : Type 0
 LineWrittenBytes = (x : Lined) (acts : List LineAct) → T (all lineBytes acts) → Bytes (writtenLine x acts)
 
 -- DEMAND 2 of a line: while the badge is green, every counted message that went through the feed since the connect has been met, in its order, none
--- left out
+-- left out. What a line drops did not go through the feed; while it does not drop, nothing was (LinesDrop), and no byte is lost (NoByteLost)
 abbrev pub LinesNoneLeftOut : Type 0
 LinesNoneLeftOut =
     (limit : ℕ) (n : Sizes) (acts : List LineAct) (time : ℕ) → isGreen (stateOn (endLine limit n acts)) time ≡ true

@@ -48,7 +48,7 @@ linkedBack l r = cond (eqb (r .answer) 0) (record { answer = 0; line = plainLine
 abbrev pub linksBack : MmdhLine → List ℕ → Given → MmdhLinked
 linksBack l hold g = linkedBack l (links g (lineOf l) hold)
 
--- mmdh_line_scrap with no answer: the line as it was handed in, whatever its numbers
+-- mmdh_line_scrap where nothing is looked at: the line as it was handed in, whatever its numbers
 abbrev pub plainSilent : ℕ → MmdhLine → MmdhHeard
 plainSilent used l = record { said = 0; answer = 0; accepted = 0; used = used; line = l }
 
