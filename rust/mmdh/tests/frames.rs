@@ -255,16 +255,16 @@ fn a_morning_in_frames_ends_as_it_does_by_pieces() {
 }
 
 #[test]
-fn damaged_lines_end_in_a_frame_as_they_do_by_pieces() {
+fn damaged_lines_end_in_a_frame_as_they_do_unit_by_unit() {
     let morning = std::fs::read("../../captures/morning.bin").expect("the capture");
     let mut dice = Dice::new(78);
     let mut met = std::collections::BTreeSet::new();
     for _ in 0..200 {
         let stream = dice.damaged(&morning[..40_000]);
-        let (mut line, mut by_pieces) = (connected(7), connected(7));
+        let (mut line, mut by_units) = (connected(7), connected(7));
         let ended = line.hear_frame(&stream, u64::MAX, 8);
-        assert_eq!(ended, by_pieces.hear(&stream, 8));
-        assert_alike(&line, &by_pieces, 9);
+        assert_eq!(ended, by_units.hear_each(&stream, 8, |_| {}));
+        assert_alike(&line, &by_units, 9);
         met.insert(ended.err().map(|refused| refused.answer().number()));
     }
     assert!(met.len() >= 5, "refusals met: {:?}", met);
