@@ -148,14 +148,19 @@ fn a_short_buffer_ends_as_a_long_one_while_units_fit() {
     for (room, way) in [(LONGEST, 0), (564, 0), (564, 1), (564, 2), (563, 0)] {
         let mut line = Line::with_hold(1_000, 128, room).expect("listed");
         line.connect(Connect::Fresh, 7).expect("accepted");
-        let heard = morning.chunks(777).try_for_each(|piece| {
+        let mut heard = morning.chunks(777).try_for_each(|piece| {
             let heard = match way {
                 0 => line.hear(piece, 7),
                 1 => line.hear_each(piece, 7, |_| {}),
-                _ => line.hear_frame(piece, 40, 7),
+                _ => line.hear_frame(piece, 3, 7),
             };
             heard.map(|_| ())
         });
+        // three a frame leave more than the buffer has room for
+        assert_eq!(line.waiting() > room, way == 2);
+        while heard.is_ok() && line.waiting() > 0 {
+            heard = line.hear_frame(&[], 3, 7).map(|heard| assert!(heard.units > 0));
+        }
         ends.push((heard.map_err(|refused| refused.answer()), line.units(), line.books().words().to_vec()));
     }
     assert!(ends[..4].iter().all(|end| end == &ends[0]), "{:?}", ends[..4].iter().map(|end| end.1).collect::<Vec<_>>());
