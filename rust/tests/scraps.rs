@@ -320,8 +320,9 @@ pub fn plainly(feed: MmdhFeed) -> MmdhFeed {
 fn phases(pair: &mut Pair) {
     let unit = unit(7, 41, &nominal(700, 9_740));
     let long = frames::units()[5].1.clone();
-    // bytes, and whether a unit is finished or has no room in 40 bytes
-    let scraps = [(&[][..], false), (&unit[..31], false), (&unit, true), (&HEARTBEAT, true), (&long[..22], true)];
+    // bytes, and what is due of them in Live: 0 of a unit that is finished, 22 of one that has no room in 40 bytes
+    let scraps =
+        [(&[][..], None), (&unit[..31], None), (&unit, Some(0)), (&HEARTBEAT, Some(0)), (&long[..22], Some(22))];
     for phase in PHASES {
         for (whole, fresh, dropping) in [(0, 0, 0), (1, 1, 0), (2, u64::MAX, 0), (7, 256, 1), (0, 2, u64::MAX)] {
             let line = MmdhLine { feed: MmdhFeed { phase, whole, fresh, ..LIVE }, held: 0, dropping };
@@ -334,24 +335,32 @@ fn phases(pair: &mut Pair) {
     }
 }
 
-/// 10 and 11 only where a unit is finished or 22 is due, and nothing at all where none is allowed or all is dropped.
-fn in_phase(pair: &mut Pair, handed: MmdhLine, (scrap, due): (&[u8], bool), allowed: u64, time: u64) {
+/// 10 and 11 only where a unit is finished or 22 is due, and nothing at all where none is allowed or all is dropped. 22 changes the
+/// phase alone; a heartbeat is taken in every open phase, a message only in Live.
+fn in_phase(pair: &mut Pair, handed: MmdhLine, (scrap, due): (&[u8], Option<u64>), allowed: u64, time: u64) {
     let mut stand = Stand::new(LIVE, frames::tables(), 40);
     stand.line = handed;
     let heard = stand.scrap(pair, scrap, allowed, time);
     let (feed, used) = (plainly(handed.feed), scrap.len() as u64);
     let quiet = MmdhHeard { line: handed, ..MmdhHeard::default() };
-    let refused = |answer| {
-        let line = MmdhLine { feed, held: 0, dropping: 1 };
+    let refused = |answer, phase| {
+        let line = MmdhLine { feed: MmdhFeed { phase, ..feed }, held: 0, dropping: 1 };
         MmdhHeard { said: 1, answer, accepted: 0, used, line }
     };
-    let wanted = match allowed {
-        0 => quiet,
+    let taken = |next, internal| {
+        let line = MmdhLine { feed: MmdhFeed { next, internal, heard: time, ..feed }, held: 0, dropping: 0 };
+        MmdhHeard { said: u64::from(allowed == 1), answer: 0, accepted: 1, used, line }
+    };
+    let wanted = match due {
+        _ if allowed == 0 => quiet,
         _ if handed.dropping != 0 => MmdhHeard { used, ..quiet },
-        _ if !due => MmdhHeard { used, line: MmdhLine { feed, held: used, dropping: 0 }, ..quiet },
-        _ if time < feed.heard => refused(10),
-        _ if !(1..=4).contains(&feed.phase) => refused(11),
-        _ => heard,
+        None => MmdhHeard { used, line: MmdhLine { feed, held: used, dropping: 0 }, ..quiet },
+        _ if time < feed.heard => refused(10, feed.phase),
+        _ if !(1..=4).contains(&feed.phase) => refused(11, feed.phase),
+        Some(22) => refused(22, 5),
+        _ if scrap == HEARTBEAT => taken(feed.next, feed.internal),
+        _ if feed.phase < 4 => refused(14, 5),
+        _ => taken(8, 41),
     };
     let input = || format!("{:?} at {}, {} allowed, {:02x?}", handed, time, allowed, scrap);
     pair.tally.same(&heard, &wanted, input);
