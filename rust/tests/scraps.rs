@@ -274,37 +274,57 @@ fn behind_another(pair: &mut Pair, room: usize, size: usize, at: usize) {
     pair.tally.same(&said, &vec![0, last], input);
 }
 
+/// Phases and times, and what is answered there where 22 is due: 10 and 11 come before it.
+const DUE: [(u64, u64, u64); 10] = [
+    (1, TIME, 22),
+    (2, LIVE.heard, 22),
+    (3, u64::MAX, 22),
+    (4, TIME, 22),
+    (4, LIVE.heard - 1, 10),
+    (1, 0, 10),
+    (6, LIVE.heard - 1, 10),
+    (0, TIME, 11),
+    (5, LIVE.heard, 11),
+    (6, u64::MAX, 11),
+];
+
 /// More waits than there is room for, and a buffer too short for a header: 22 is due, whatever comes.
 fn overfull(pair: &mut Pair) {
     let unit = unit(7, 41, &nominal(700, 9_740));
     for room in [0u64, 1, 20, 21, 22, 23, 64] {
         for held in [0, 1, room, room + 1, room + 2, 1 << 32, u64::MAX] {
+            if held <= room && room >= 22 {
+                continue;
+            }
             for (dropping, allowed) in [(0, 0), (0, 1), (0, u64::MAX), (9, 1), (9, 0)] {
-                if held <= room && room >= 22 {
-                    continue;
+                for (phase, time, answer) in DUE {
+                    let line = MmdhLine { feed: MmdhFeed { phase, ..LIVE }, held, dropping };
+                    for scrap in [&[][..], &[20], &HEARTBEAT, &unit] {
+                        too_much(pair, line, room, (scrap, time, answer), allowed);
+                    }
                 }
-                let line = MmdhLine { feed: LIVE, held, dropping };
-                [&[][..], &[20], &HEARTBEAT, &unit].iter().for_each(|scrap| too_much(pair, line, room, scrap, allowed));
             }
         }
     }
 }
 
-/// One scrap of a line in which 22 is due before anything has come.
-fn too_much(pair: &mut Pair, line: MmdhLine, room: u64, scrap: &[u8], allowed: u64) {
+/// One scrap of a line in which 22 is due before anything has come, and its answer.
+fn too_much(pair: &mut Pair, line: MmdhLine, room: u64, (scrap, time, answer): (&[u8], u64, u64), allowed: u64) {
     let mut stand = Stand::new(LIVE, frames::tables(), room as usize);
     stand.line = line;
     // with as many as there is room for, units that would be accepted
     stand.hold.iter_mut().zip(HEARTBEAT.iter().cycle()).for_each(|(byte, of)| *byte = *of);
     let before = stand.clone();
-    let heard = stand.scrap(pair, scrap, allowed, TIME);
+    let heard = stand.scrap(pair, scrap, allowed, time);
     let used = scrap.len() as u64;
+    let phase = if answer == 22 { 5 } else { line.feed.phase };
+    let refused = MmdhLine { feed: MmdhFeed { phase, ..line.feed }, held: 0, dropping: 1 };
     let wanted = match (line.dropping, allowed) {
         (_, 0) => MmdhHeard { line, ..MmdhHeard::default() },
-        (0, _) => MmdhHeard { said: 1, answer: 22, accepted: 0, used, line: after_refusal(22) },
+        (0, _) => MmdhHeard { said: 1, answer, accepted: 0, used, line: refused },
         _ => MmdhHeard { used, line, ..MmdhHeard::default() },
     };
-    let input = || format!("{} wait in {}, {} allowed", line.held, room, allowed);
+    let input = || format!("{:?} at {}, buffer of {}, {} allowed", line, time, room, allowed);
     pair.tally.same(&heard, &wanted, input);
     let same = (&stand.tables, &stand.hold) == (&before.tables, &before.hold);
     pair.tally.holds(same, || format!("{}: something was written", input()));
