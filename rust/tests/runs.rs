@@ -273,15 +273,16 @@ pub fn check_market(pair: &mut Pair, units: u32) {
 /// All units in scraps of any length, told as a frame; its answer is how many bytes wait and whether any are dropped.
 fn in_scraps(feed: MmdhFeed, tables: &mut Tables, bytes: &[u8], time: u64, dice: &mut Dice) -> MmdhFrame {
     let (mut line, mut hold) = (MmdhLine { feed, held: 0, dropping: 0 }, [0; 600]);
-    let (mut accepted, mut used) = (0, 0);
-    while used < bytes.len() {
-        let end = bytes.len().min(used + dice.place(200));
-        let heard = raw::line_scrap(line, tables.lend(), &mut hold, &bytes[used..end], u64::MAX, time);
+    let (mut accepted, mut used, mut at) = (0, 0, 0);
+    while at < bytes.len() {
+        let end = bytes.len().min(at + dice.place(200));
+        let heard = raw::line_scrap(line, tables.lend(), &mut hold, &bytes[at..end], u64::MAX, time);
         line = heard.line;
         accepted += heard.accepted;
-        used = end;
+        used += heard.used;
+        at = end;
     }
-    MmdhFrame { answer: line.held + line.dropping, accepted, used: used as u64, feed: line.feed }
+    MmdhFrame { answer: line.held + line.dropping, accepted, used, feed: line.feed }
 }
 
 /// A message to some book or strip.
