@@ -1,5 +1,6 @@
-//! Document 01 in plain Rust, with requests 1 to 3 and 5 of document 02, written from the documents alone: the same calls over
-//! the same tables of words.
+//! Document 01 in plain Rust, with requests 1 to 3 and 5 of document 02, written from the documents alone, but for which bytes
+//! of the holding buffer are written (docs/DECISIONS.md, "Every byte of the buffer"): the same calls over the same tables of
+//! words.
 //! The library is compared with it, answer by answer and word by word.
 
 #![forbid(unsafe_code)]

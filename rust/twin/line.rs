@@ -1,5 +1,6 @@
 //! A line that hands in scraps (request 5 of document 02): a holding buffer is lent, finished units go through the feed, and
-//! the rest waits at the buffer's front.
+//! the rest waits at the buffer's front. Which bytes of the buffer are written besides is not in the documents: there the twin
+//! goes by docs/DECISIONS.md, "Every byte of the buffer".
 
 use crate::unit::{self, u16_at, Unit, HEADER};
 use crate::{Answer, Feed, Given, Tables};
@@ -80,7 +81,7 @@ enum Front {
     Torn,
     /// More than the holding buffer has room for.
     TooLong,
-    /// A unit of so many bytes; with MsgSize 0 or 1 those that tell it.
+    /// A unit of so many bytes; with MsgSize 0 or 1 the 22 that tell it, by our decision and not by the documents.
     Finished(usize),
 }
 
