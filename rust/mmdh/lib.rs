@@ -1,8 +1,9 @@
 //! Order books on a screen, with a badge that is green only by right.
 //!
 //! A safe cover over the proved library's C calls. A [`Line`] takes a line's bytes in any pieces, fills its books and the
-//! price strips under them, and says what a panel's corner shows, and why. Each call gets one of document 01's answers,
-//! whatever the bytes, the tables and the clock; nobody has to check first. [`connection`] tells the life of a connection.
+//! price strips under them, and says what a panel's corner shows, and why. Each call gets one of the answers of documents 01
+//! and 02, or none where bytes only wait or are dropped, whatever the bytes, the tables and the clock; nobody has to check
+//! first. [`connection`] tells the life of a connection.
 //!
 //! ```
 //! use mmdh::{Badge, Connect, Line};

@@ -20,7 +20,7 @@ use unit::{u16_at, u32_at, Unit, HEADER};
 /// Longest stretch of bytes that the program of example 10 holds.
 pub const BUFFER: usize = 65_536;
 
-/// Document 01's answers, by their numbers.
+/// Document 01's answers, by their numbers; 22 is document 02's, by which a scrap may have none.
 #[derive(Clone, Copy, PartialEq, Eq, Debug)]
 pub enum Answer {
     /// Taken.
