@@ -2,10 +2,10 @@
  * mmdh: order books from the exchange's MMDH feed, a price strip under each, and a badge that is green only with the right
  * to be.
  *
- * The answers are the numbers of document 01, and 22 of document 02; MMDH_* below names them. Every call is total: any
- * feed, any tables, any bytes and any time is answered, and nothing is kept between calls. Link with libscreen.a, and
- * compare mmdh_version() with MMDH_VERSION once at the start: the linker does not notice an archive whose calls have other
- * shapes.
+ * The answers are the numbers of document 01, and 22 of document 02; MMDH_* below names them. Every call is total: it takes
+ * any feed, any tables, any bytes and any time, and nothing is kept between calls. Only a scrap may have no answer, where its
+ * bytes wait or are dropped. Link with libscreen.a, and compare mmdh_version() with MMDH_VERSION once at the start: the linker
+ * does not notice an archive whose calls have other shapes.
  *
  * Two tables are lent: the books, 64 words each, and the strips, 12 words each, at most 4,096 of either; words behind the
  * last whole one are never read or written. Each table has its own order of slots. Start with all words zero, lend the
@@ -37,7 +37,9 @@ extern "C" {
 #define MMDH_BOOK_WORDS 64
 #define MMDH_STRIP_WORDS 12
 
-/* Answers. After MMDH_TAKEN, MMDH_SEEN and MMDH_PASSED bytes are used; every other answer writes nothing to the tables. */
+/* Answers. A unit's bytes are used after MMDH_TAKEN, MMDH_SEEN and MMDH_PASSED; with every other answer it writes nothing to the
+   tables. What several units in one call come to, and what a refusal makes of a scrap, stands with mmdh_arrive_frame and
+   mmdh_line_scrap. */
 enum {
     MMDH_TAKEN = 0,          /* also a connect or a new feed that is accepted, and a row, a side or a strip that is read */
     MMDH_SEEN = 1,           /* internal number not above the last: SeqNum advances and the time is heard, nothing else */
@@ -55,7 +57,8 @@ enum {
     MMDH_UNSOUND = 18,       /* the book or the strip is not sound: Lost and not whole */
     MMDH_BAD_LIMIT = 19,     /* new feed, limit outside 1 to 600,000: a feed with limit 1,000 is handed back */
     MMDH_CANNOT_RESUME = 20, /* resuming connect without its need */
-    MMDH_TOO_LONG = 22       /* lines only: a unit, or what waits, is longer than the holding buffer: Lost; or a connect with a short one */
+    MMDH_TOO_LONG = 22       /* lines only: a unit, a header with MsgSize, or what waits is longer than the holding buffer: Lost; a
+                                connect: unchanged */
 };
 
 /* Phases. A number above 6 is handled as Lost. */
