@@ -300,9 +300,10 @@ impl Line {
     }
 
     /// A message that another box has cut out of its unit, with the two numbers of its header. It is judged by the feed alone,
-    /// with the answers of [`Line::hear`] but for 22: bytes that wait have no part in it, a line that drops its bytes takes
-    /// it all the same, and its refusal does not make one drop; where it loses the line, the next whole unit is 11. Take a
-    /// connection's messages either in this way or as bytes.
+    /// with the answers of [`Line::hear`] but for 22: bytes that wait have no part in it, and its refusal does not make a line
+    /// drop; where it loses the line, the next whole unit is 11. On a line whose bytes are dropped an accepted one is heard all
+    /// the same, and the badge goes on being green. Take a connection's messages either in this way or as bytes: the promises
+    /// about runs are of lines fed by bytes, or of feeds fed by single calls, not of a mix.
     ///
     /// ```
     /// use mmdh::{Answer, Badge, Connect, Line};
