@@ -76,8 +76,9 @@ pub struct Heard {
     /// Bytes that wait for the rest of their unit; after a frame in which the allowed number was reached there may be whole
     /// units among them.
     pub waiting: usize,
-    /// Whether the line drops what comes, this piece too: a unit was refused before it, and no connect has been accepted
-    /// since. Nothing more is taken, whatever the badge is: connect anew.
+    /// Whether the line drops what comes: a unit was refused before this piece, and no connect has been accepted since. The
+    /// piece is dropped too; with 0 allowed it only waits, and the next call with a unit allowed drops it. Nothing more is
+    /// taken, whatever the badge is: connect anew.
     pub dropping: bool,
 }
 
