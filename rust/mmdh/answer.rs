@@ -48,7 +48,8 @@ pub enum Answer {
     BadLimit,
     /// 20: resuming without a whole table and an internal number to resume from.
     CannotResume,
-    /// 22: a unit is longer than the holding buffer; or a connect with one of fewer than 22 bytes, a header and MsgSize.
+    /// 22: a unit is longer than the holding buffer; or the buffer has fewer than 22 bytes, a header and MsgSize, at a connect
+    /// too; or more bytes wait than it has.
     TooLong,
 }
 
