@@ -87,9 +87,13 @@ impl Desk {
     fn head(&self, size: Size, time: u64) -> Vec<Text> {
         let reason = self.line.reason(time);
         let label = panel::label(reason.badge(), size.columns);
-        let dropping = if reason.dropping.is_some() && reason.loss.is_none() { ", dropping" } else { "" };
-        let short = format!("{}{}", reason.why, dropping);
-        let said = [reason.to_string(), short, reason.why.to_string(), String::new()];
+        let why = reason.why.to_string();
+        let (short, shortest) = if reason.dropping.is_some() && reason.loss.is_none() {
+            (format!("{}, dropping", why), "dropping".to_string())
+        } else {
+            (why.clone(), why)
+        };
+        let said = [reason.to_string(), short, shortest, String::new()];
         let wrapped = said.iter().map(|words| wrap(label.chars().count(), words, size.columns));
         let fitting = wrapped.into_iter().find(|lines| lines.len() <= size.lines.max(1)).unwrap_or_default();
         let mut lines = fitting.into_iter().map(|line| Text::of(line, Style::Strong));

@@ -97,6 +97,10 @@ fn a_line_that_drops_says_so() {
         assert!(painted.contains("closed: logged out") && desk.is_over(), "{}", painted);
         let short = frame(&desk, "", 25, 1, 1).join(" ");
         assert!(short.starts_with(if dropping { " stale  closed, dropping" } else { " stale  closed" }), "{}", short);
+        assert_eq!(short.contains("dropping"), dropping, "{}", short);
+        // with no room for both, that it drops
+        let shorter = frame(&desk, "", 16, 1, 1).join(" ");
+        assert!(shorter.starts_with(if dropping { " stale  dropping" } else { " stale  closed" }), "{}", shorter);
     }
 }
 
