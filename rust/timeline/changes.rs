@@ -1,14 +1,15 @@
 //! Follows a capture and notes every change of the badge, with what caused it.
 
 use crate::recording::{Event, What};
-use mmdh::{Answer, Badge, Connect, Line, Loss, Refused, Unit};
+use mmdh::{Answer, Badge, Connect, Dropping, Line, Loss, Refused, Unit};
 
 /// The unit that changed the badge.
 #[derive(Clone, Copy, PartialEq, Eq, Debug)]
 pub struct Cause {
     /// Counted from 1 since the connect.
     pub unit: u64,
-    pub seq: u64,
+    /// None where it was refused with 10 or 11: only its number is kept.
+    pub seq: Option<u64>,
     /// MsgType; none of a heartbeat.
     pub kind: Option<u16>,
 }
@@ -111,8 +112,10 @@ impl Follower {
 
     /// The unit that was refused; what comes behind it is dropped and gets no answer.
     fn refused(&mut self, refused: Refused) {
-        let of = |loss: Loss| Cause { unit: loss.unit, seq: loss.met, kind: loss.kind };
-        let cause = self.line.reason(self.time).loss.map(of);
+        let reason = self.line.reason(self.time);
+        let lost = |loss: Loss| Cause { unit: loss.unit, seq: Some(loss.met), kind: loss.kind };
+        let dropped = |dropping: Dropping| Cause { unit: dropping.unit, seq: None, kind: None };
+        let cause = reason.loss.map(lost).or_else(|| reason.dropping.map(dropped));
         self.note("refused unit", cause, Some(refused.answer()));
     }
 
@@ -131,6 +134,6 @@ impl Follower {
 
 fn cause(unit: &Unit<'_>) -> Cause {
     let number = |at: usize| unit.bytes.get(at..at + 4).and_then(|bytes| bytes.try_into().ok()).map(u32::from_le_bytes);
-    let seq = number(4).map_or(0, u64::from);
+    let seq = number(4).map(u64::from);
     Cause { unit: unit.number, seq, kind: number(20).map(|sizes| (sizes >> 16) as u16) }
 }

@@ -35,7 +35,8 @@ fn in_words(change: &Change) -> String {
 fn caused(change: &Change) -> String {
     let unit = change.cause.map_or(String::new(), |cause| {
         let kind = cause.kind.map_or(String::new(), |kind| format!(", type {}", kind));
-        format!(" {} (SeqNum {}{})", cause.unit, cause.seq, kind)
+        let seq = cause.seq.map_or(String::new(), |seq| format!(" (SeqNum {}{})", seq, kind));
+        format!(" {}{}", cause.unit, seq)
     });
     let answer = change.answer.map_or(String::new(), |answer| format!(", answer {} ({})", answer.number(), answer));
     format!("{}{}{}", change.event, unit, answer)
@@ -54,7 +55,7 @@ fn csv_line(change: &Change) -> String {
         clock(change.time).unwrap_or_default(),
         change.event.to_string(),
         number(change.cause.map(|cause| cause.unit)),
-        number(change.cause.map(|cause| cause.seq)),
+        number(change.cause.and_then(|cause| cause.seq)),
         number(change.cause.and_then(|cause| cause.kind).map(u64::from)),
         number(change.answer.map(|answer| answer.number())),
         change.answer.map_or(String::new(), |answer| quoted(&answer.to_string())),
