@@ -227,7 +227,7 @@ static int same_line(const MmdhLine *line, const MmdhLine *other) {
     return memcmp(line, other, sizeof *line) == 0;
 }
 
-/* The same three units in scraps of every length, up to and over the whole, as single calls left the tables and the feed. */
+/* The same three units in scraps of every length, up to the whole in one, as single calls left the tables and the feed. */
 static void cut(const uint8_t *bytes, size_t n, const uint64_t *books, const uint64_t *strip_table, MmdhFeed after) {
     static uint64_t own[2 * MMDH_BOOK_WORDS + 1], own_strips[MMDH_STRIP_WORDS + 1];
     static uint8_t hold[64];
