@@ -26,7 +26,6 @@ impl Tables {
 }
 
 /// A holding buffer, how many bytes wait at its front, and whether what comes is dropped.
-#[derive(Clone, Default, PartialEq, Eq)]
 struct Hold {
     bytes: Vec<u8>,
     held: u64,
@@ -185,17 +184,15 @@ impl Desk {
     fn resize(&mut self, words: &mut Words<'_>) -> Result<(), String> {
         let size = words.size("SIZE")?;
         words.end()?;
-        let mut hold = self.hold()?.clone();
-        hold.bytes.resize(size, 0);
-        self.hold = Some(hold);
+        self.hold()?.bytes.resize(size, 0);
         Ok(())
     }
 
-    fn hold(&self) -> Result<&Hold, String> {
-        self.hold.as_ref().ok_or_else(|| "there is no holding buffer yet: a line 'hold' comes first".to_string())
+    fn hold(&mut self) -> Result<&mut Hold, String> {
+        self.hold.as_mut().ok_or_else(|| "there is no holding buffer yet: a line 'hold' comes first".to_string())
     }
 
-    fn line(&self) -> Result<MmdhLine, String> {
+    fn line(&mut self) -> Result<MmdhLine, String> {
         let (feed, hold) = (self.feed()?, self.hold()?);
         Ok(MmdhLine { feed, held: hold.held, dropping: hold.dropping })
     }
@@ -203,16 +200,19 @@ impl Desk {
     fn line_connect(&mut self, words: &mut Words<'_>) -> Result<String, String> {
         let (resuming, now) = (words.number("RESUMING")?, words.number("NOW")?);
         words.end()?;
-        let bytes = self.hold()?.bytes.clone();
-        let linked = raw::line_connect(self.line()?, &bytes, resuming, now);
-        self.goes_on(linked.line, bytes);
+        let line = self.line()?;
+        let linked = raw::line_connect(line, &self.hold()?.bytes, resuming, now);
+        self.goes_on(linked.line)?;
         Ok(format!("hconnect {} {}", linked.answer, numbers(&linked.line.feed)))
     }
 
-    /// The line and the buffer after a call.
-    fn goes_on(&mut self, line: MmdhLine, bytes: Vec<u8>) {
+    /// The line after a call.
+    fn goes_on(&mut self, line: MmdhLine) -> Result<(), String> {
         self.feed = Some(line.feed);
-        self.hold = Some(Hold { bytes, held: line.held, dropping: line.dropping });
+        let hold = self.hold()?;
+        hold.held = line.held;
+        hold.dropping = line.dropping;
+        Ok(())
     }
 
     /// Unit by unit. Every other time all units at once, on copies, must end in the same.
@@ -228,7 +228,8 @@ impl Desk {
         }
         let line = after.line;
         self.tables = after.tables;
-        self.goes_on(line, after.hold);
+        self.hold()?.bytes = after.hold;
+        self.goes_on(line)?;
         let listed: Vec<String> = answers.iter().map(u64::to_string).collect();
         let listed = if listed.is_empty() { "-".to_string() } else { listed.join(",") };
         Ok(format!("scrap {} {} {} {}", listed, numbers(&line.feed), line.held, line.dropping))
