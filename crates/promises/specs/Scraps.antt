@@ -20,7 +20,7 @@ use Rattle.feed.specs.Steps.{accepted, stateOf, outcome}
 use Rattle.feed.specs.Frames.{Framed, framed}
 use Rattle.feed.specs.declared.Given.{Given}
 use Rattle.feed.specs.declared.Link.{Link}
-use Rattle.lines.specs.Looks.{exceeds, look}
+use Rattle.lines.specs.Looks.{leastHold, exceeds, look}
 use Rattle.lines.specs.Scraps.{Hearing, hearing, behind, silent, onward, goesOn, hears, links}
 use Rattle.lines.specs.declared.Look.{Look}
 use Rattle.lines.specs.declared.Look.the-variants.{Waits, TooLong, Finished}
@@ -107,17 +107,18 @@ ScrapExactly =
     (r .said ≡ (long || not (isMore (news (Arrive s time)))))
     × (eqb (r .answer) 22 ≡ (long && not (ltb time (x .line .feed .heard)) && not (deaf (x .line .feed .phase))))
 
--- a connect: the feed's answer, or 22 where that is 0 and the buffer is "too short for the header and MsgSize"; accepted, it "empties the holding buffer" and
--- ends the dropping; refused, everything is unchanged
+-- what the feed makes of a connect
 abbrev pub linked : Lined → List ℕ → Link → ℕ → Given
 linked x hold link time = outcome (stateOn x) (Connect link time) .given
 
+-- a connect: the feed's answer, or 22 where that is 0 and the buffer is "too short for the header and MsgSize"; accepted, it "empties the holding buffer" and
+-- ends the dropping; refused, everything is unchanged
 abbrev pub LinkTells : Type 0
 LinkTells =
     (x : Lined) (hold : List ℕ) (link : Link) (time : ℕ)
     → let r : Linked = links (linked x hold link time) (x .line) hold in
     let n : ℕ = answerOf (stateOn x) (Connect link time) in
-    (r .answer ≡ cond (eqb n 0 && ltb (length hold) 22) 22 n)
+    (r .answer ≡ cond (eqb n 0 && ltb (length hold) leastHold) 22 n)
     × (r .answer ≡ 0 → r .line ≡ record { feed = after (stateOn x) (Connect link time) .feed; held = 0; dropping = false })
     × ((r .answer ≡ 0 → ⊥) → r .line ≡ x .line)
 
@@ -349,7 +350,8 @@ abbrev pub LineWrittenBytes : Type 0
 LineWrittenBytes = (x : Lined) (acts : List LineAct) → T (all lineBytes acts) → Bytes (writtenLine x acts)
 
 -- DEMAND 2 of a line: while the badge is green, every counted message that went through the feed since the connect has been met, in its order, none
--- left out. What a line drops did not go through the feed; while it does not drop, nothing was (LinesDrop), and no byte is lost (NoByteLost)
+-- left out. What a line drops did not go through the feed; while it does not drop, no arrival was refused since the connect (LinesDrop), and no byte is
+-- lost (NoByteLost)
 abbrev pub LinesNoneLeftOut : Type 0
 LinesNoneLeftOut =
     (limit : ℕ) (n : Sizes) (acts : List LineAct) (time : ℕ) → isGreen (stateOn (endLine limit n acts)) time ≡ true
