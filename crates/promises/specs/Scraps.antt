@@ -96,8 +96,8 @@ scrapAnswers = 10 ∷ 11 ∷ 22 ∷ 12 ∷ 13 ∷ 14 ∷ 1 ∷ 15 ∷ 18 ∷ 17 
 abbrev pub ScrapListed : Type 0
 ScrapListed = (x : Lined) (hold scrap : List ℕ) (allowed time : ℕ) → T (oneOf (scrapped x hold scrap allowed time .heard .answer) scrapAnswers)
 
--- "under exactly its stated condition": there is an answer exactly if 22 is due or the reader would not say More, and it is 22 exactly if 22 is due and
--- neither 10 nor 11 comes first
+-- "under exactly its stated condition": of one unit, there is an answer exactly if 22 is due or the reader would not say More, and it is 22 exactly if 22
+-- is due and neither 10 nor 11 comes first
 abbrev pub ScrapExactly : Type 0
 ScrapExactly =
     (x : Lined) (hold scrap : List ℕ) (time : ℕ) → x .line .dropping ≡ false
