@@ -3,15 +3,13 @@ use Prim.Native.Nat.{ℕ, zero, suc, _+_}
 use native.Mathlib.Omega.{arith}
 use native.Mathlib.Nat.{zero-add}
 use mathlib.Core.Path.{_≡_, refl, sym, ap, _∙_, subst}
-use mathlib.Core.Bool.{Bool, true, false, cond, not, _&&_, true≢false}
+use mathlib.Core.Bool.{Bool, true, false, cond, not, _&&_}
 use mathlib.Core.List.{List, [], _∷_, _++_, append-nil}
 use lib.ListN.{length, take, drop}
 use lib.Dec.{T, ltb, eqb}
 use borrow.Author.Tests.{ne-eqb, eqb-true}
 use Rattle.ground.specs.Choice.{oneOf, all, first}
-use Rattle.ground.proofs.Bools.{split, two, pair}
-use Rattle.ground.proofs.Choices.{each-has}
-use Rattle.feed.specs.Feeds.{plainBadge}
+use Rattle.ground.proofs.Bools.{split, two}
 use Rattle.feed.specs.Events.{Tables, State, Event, Connect}
 use Rattle.feed.specs.Steps.{accepted, stateOf, outcome}
 use Rattle.feed.specs.declared.Given.{Given}
@@ -25,8 +23,8 @@ use Rattle.promises.specs.Refusals.{ending}
 use Rattle.promises.specs.Demands.{connects}
 use Rattle.promises.specs.Runs.{Sizes, after, answerOf, trace, isGreen}
 use Rattle.promises.specs.Frames.{answersIn}
-use Rattle.promises.specs.Scraps.{Lined, lined, stateOn, linedIn, opens, scrapped, units, scrapSaid, scrapAnswers, View, view, scraps, onePiece, linked, afterLine, runLine, lineEvents, writtenLine, newLine, endLine, NoConnect}
-use Rattle.promises.proofs.Scraps.{Turn, silently, with-event, TurnAt, QuietAt, SpokeAt, turnAt, quiet-said, spoke-said, spoke-answer, spoke-state, spoke-goes, units-quiet, units-on, units-off, walk, first-turn, one-turn, scrapDropped, scrapListed, linkListed}
+use Rattle.promises.specs.Scraps.{Lined, lined, stateOn, linedIn, opens, scrapped, units, scrapSaid, scrapAnswers, View, scraps, onePiece, linked, afterLine, runLine, lineEvents, writtenLine, newLine, endLine, NoConnect}
+use Rattle.promises.proofs.Scraps.{silently, with-event, TurnAt, QuietAt, SpokeAt, turnAt, quiet-said, spoke-said, spoke-answer, spoke-state, spoke-goes, units-quiet, units-on, units-off, walk, first-turn, one-turn, scrapDropped, scrapListed, linkListed}
 use Rattle.promises.proofs.Cuts.{anyScraps, no-events}
 use Rattle.promises.proofs.Lines as P
 use Rattle.screen.specs.Plain.{yes, bit, linkOf, feedOf, plainFeed, lineOf, plainLine, PlainHearing, plainHearing, plainHears}

@@ -26,7 +26,7 @@ use Rattle.lines.proofs.Courses.{onward-counts, through-on, through-ends}
 use Rattle.promises.specs.Runs.{after, answerOf, trace}
 use Rattle.promises.specs.Scraps as S
 use Rattle.promises.specs.Scraps.{Lined, stateOn, linedIn, opens, scrapped, units, scrapEvents, scrapSaid, bytesIn, View, view, scraps, onePiece}
-use Rattle.promises.proofs.Scraps.{On, Off, at, metAt, walk, once-is, dropped, quiet-off, spoke-goes, spoke-state, spoke-taken, spoke-refused, units-quiet, units-on, units-off, ends, scrapWithin, scrapDropped, scrapStops, SpokeAt, waits, long, fed}
+use Rattle.promises.proofs.Scraps.{On, Off, at, metAt, walk, once-is, dropped, quiet-off, spoke-goes, spoke-state, spoke-taken, spoke-refused, units-quiet, units-on, units-off, ends, scrapWithin, scrapDropped, hears-dropped, scrapStops, SpokeAt, waits, long, fed}
 use Rattle.promises.proofs.Flows.{eventOf, sizeOf, isWaits, told, joined, answered, rests, pump, pump-rest, pump-go, pump-same, settles, size, later, later-on, later-off, cut, joined-size, any-size, joined-twice, dropped-rests}
 
 -- a buffer that is shorter than what waits is as good as none
@@ -451,17 +451,13 @@ module _ (s : List ℕ) (t : ℕ) where
           go true a = goes-unit k y d n e a rest h
           go false a = absurd (refused event (fed (y .heard .line) (y .tables) (y .hold) (drop (y .heard .used) s) t n d e) a)
 
--- a line that drops goes on dropping; so one that does not, did not before
-still-drops : (x : Lined) (hold scrap : List ℕ) (allowed time : ℕ) → x .line .dropping ≡ true → scrapped x hold scrap allowed time .heard .line .dropping ≡ true
-still-drops x hold scrap zero time d = unfold through in d
-still-drops x hold scrap (suc k) time d = ap (λ (z : Hearing). z .heard .line .dropping) (scrapDropped x hold scrap k time d) ∙ d
-
+-- a line that does not drop did not before
 pub noByteLost : S.NoByteLost
 noByteLost x hold scrap allowed time h = goes-all scrap time allowed (opens x hold) (before (x .line .dropping) refl) h
   where
     before : (b : Bool) → x .line .dropping ≡ b → x .line .dropping ≡ false
     before false d = d
-    before true d = absurd (true≢false (sym (still-drops x hold scrap allowed time d) ∙ h))
+    before true d = absurd (true≢false (sym (ap (λ (y : Lined). y .line .dropping) (hears-dropped x hold scrap allowed time d) ∙ d) ∙ h))
 
 -- a line that drops meets nothing
 pub no-events : (x : Lined) (hold s : List ℕ) (t : ℕ) → x .line .dropping ≡ true → (k : ℕ) → units (suc k) s t (opens x hold) ≡ []

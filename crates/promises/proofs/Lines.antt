@@ -1,12 +1,12 @@
 -- Runs of a line's calls, proved: each is named as its statement in specs/Scraps, with a small letter. Assumes nothing.
-use Prim.Native.Nat.{ℕ, zero, suc, _+_, _≤_}
+use Prim.Native.Nat.{ℕ, zero, suc, _+_}
 use native.Mathlib.Omega.{arith}
 use mathlib.Core.Path.{_≡_, refl, sym, ap, _∙_, subst}
 use mathlib.Core.Bool.{Bool, true, false, cond, not, _&&_, _||_, true≢false}
 use mathlib.Core.List.{List, [], _∷_, _++_}
 use lib.ListN.{length, take, drop}
 use lib.Dec.{T, ltb, leb, eqb}
-use borrow.Author.Tests.{leb-true, ne-eqb}
+use borrow.Author.Tests.{ne-eqb}
 use Rattle.ground.specs.Choice.{oneOf, all, first}
 use Rattle.ground.proofs.Bools.{no-second, two, pair, both, of-T, is-T, split}
 use Rattle.ground.proofs.Choices.{each-has, all-parts}
@@ -43,7 +43,7 @@ use Rattle.promises.proofs.Morning.{run-append}
 use Rattle.promises.proofs.NoHole.{noneLeftOut}
 use Rattle.promises.proofs.Frames.{dark-after}
 use Rattle.lines.proofs.Courses.{through-on, through-ends}
-use Rattle.promises.proofs.Scraps.{Turn, silently, with-event, at, TurnAt, QuietAt, SpokeAt, turnAt, quiet-off, quiet-drops, spoke-goes, spoke-state, spoke-taken, spoke-refused, units-quiet, units-on, units-off, scrapTells, scrapDropped}
+use Rattle.promises.proofs.Scraps.{silently, with-event, at, TurnAt, QuietAt, SpokeAt, turnAt, quiet-off, quiet-drops, spoke-goes, spoke-state, spoke-taken, spoke-refused, units-quiet, units-on, units-off, scrapTells, hears-dropped}
 
 -- a connect writes no table
 act-tables : (a : Answer) (link : Link) (time : ℕ) (s : State) → act a time (News.Linked link) s .tables ≡ s .tables
@@ -143,9 +143,9 @@ due-bytes Waits s t h = tt
 due-bytes TooLong s t h = tt
 due-bytes (Finished n) s t h = pair (bytesOnly (take n s)) true (is-T _ (all-take (λ b. ltb b 256) n s (of-T _ h))) tt
 
-meets-bytes : (l : Line) (hold scrap : List ℕ) (t : ℕ) → T (bytesOnly hold) → T (bytesOnly scrap) → Bytes (turnEvents l hold scrap t)
+turn-bytes : (l : Line) (hold scrap : List ℕ) (t : ℕ) → T (bytesOnly hold) → T (bytesOnly scrap) → Bytes (turnEvents l hold scrap t)
 unfolding turnEvents all
-meets-bytes l hold scrap t h k =
+turn-bytes l hold scrap t h k =
     split Bytes (l .dropping) _ _ (λ e. tt)
     (λ e. due-bytes _ (behind (l .held) hold scrap) t
     (is-T _ (all-append (λ b. ltb b 256) (take (l .held) hold) scrap (all-take (λ b. ltb b 256) (l .held) hold (of-T _ h)) (of-T _ k))))
@@ -193,7 +193,7 @@ units-bytes zero s t y h b = tt
 units-bytes (suc k) s t y h b =
     let d = bytes-drop (y .heard .used) s b in
     let o = onward-bytes s t y h d in
-    bytes-two (turnEvents (y .heard .line) (y .hold) (drop (y .heard .used) s) t) _ (meets-bytes (y .heard .line) (y .hold) (drop (y .heard .used) s) t h d)
+    bytes-two (turnEvents (y .heard .line) (y .hold) (drop (y .heard .used) s) t) _ (turn-bytes (y .heard .line) (y .hold) (drop (y .heard .used) s) t h d)
     (split Bytes (goesOn (onward s t y .heard)) _ _ (λ e. units-bytes k s t (onward s t y) o b) (λ e. tt))
 
 act-bytes : (x : Lined) (a : LineAct) → T (lineBytes a) → Bytes (lineEvents x a)
@@ -330,10 +330,6 @@ module _ (x : Lined) (hold : List ℕ) (link : Link) (time : ℕ) where
       by true a true e = rw (links-short x hold link time a e) (refl, λ h. refl)
       by true a false e =
           rw (links-made x hold link time a e, ne-eqb (g′ .answer) 22 (never-22 x hold link time), a) (sym (no-second (x .line .dropping) false refl), λ h. absurd h)
-
-hears-dropped : (x : Lined) (hold scrap : List ℕ) (allowed time : ℕ) → x .line .dropping ≡ true → linedIn (scrapped x hold scrap allowed time) ≡ x
-hears-dropped x hold scrap zero time d = unfold through in refl
-hears-dropped x hold scrap (suc k) time d = ap linedIn (scrapDropped x hold scrap k time d)
 
 act-drops : (x : Lined) (a : LineAct) → afterLine x a .line .dropping ≡ refusedSince (x .line .dropping) (trace (stateOn x) (lineEvents x a))
 act-drops x (Links hold link time) = unfold afterLine lineEvents in link-cases x hold link time .0

@@ -80,9 +80,9 @@ module _ (l : Line) (x : Tables) (h s : List ℕ) (t : ℕ) where
     unfolding once
     once-is = cond-no (l .dropping) _ _ d ∙ rw e
 
-    pub meets-is : turnEvents l h s t ≡ dueEvents v come t
+    pub events-are : turnEvents l h s t ≡ dueEvents v come t
     unfolding turnEvents
-    meets-is = cond-no (l .dropping) _ _ d ∙ rw e
+    events-are = cond-no (l .dropping) _ _ d ∙ rw e
 
   pub dropped : l .dropping ≡ true → Quiet l x h s t
   unfolding once turnEvents
@@ -103,7 +103,7 @@ module _ (l : Line) (x : Tables) (h s : List ℕ) (t : ℕ) where
   waits d e =
       let o = once-is Waits d e in
       record {
-        met = meets-is Waits d e;
+        met = events-are Waits d e;
         said = ap (λ (y : Hearing). y .heard .said) o;
         answer = ap (λ (y : Hearing). y .heard .answer) o;
         counted = ap (λ (y : Hearing). y .heard .accepted) o;
@@ -120,7 +120,7 @@ module _ (l : Line) (x : Tables) (h s : List ℕ) (t : ℕ) where
       record {
         going = d;
         arrival = refl;
-        met = meets-is TooLong d e;
+        met = events-are TooLong d e;
         said = ap (λ (y : Hearing). y .heard .said) o;
         answer = ap (λ (y : Hearing). y .heard .answer) o;
         counted = ap (λ (y : Hearing). y .heard .accepted) o ∙ sym (cond-no (accepted (answerOf here (Overrun t))) 1 0 n);
@@ -181,7 +181,7 @@ module _ (l : Line) (x : Tables) (h s : List ℕ) (t : ℕ) where
     fed = record {
       going = d;
       arrival = refl;
-      met = meets-is (Finished n) d e;
+      met = events-are (Finished n) d e;
       said = ap (λ (r : Heard). r .said) fed-heard ∙ settled-said;
       answer = ap (λ (r : Heard). r .answer) fed-heard ∙ settled-answer;
       counted = ap (λ (r : Heard). r .accepted) fed-heard ∙ settled-counted;
@@ -739,6 +739,11 @@ scrapDropped x hold scrap allowed time d =
     through-ends scrap time (opens x hold) allowed (quiet-off scrap time (opens x hold) (dropped (x .line) (x .tables) hold scrap time d))
     ∙ first-turn x hold scrap time
     ∙ cond-yes (x .line .dropping) _ _ d
+
+-- .. stays as it is
+pub hears-dropped : (x : Lined) (hold scrap : List ℕ) (allowed time : ℕ) → x .line .dropping ≡ true → linedIn (scrapped x hold scrap allowed time) ≡ x
+hears-dropped x hold scrap zero time d = unfold through in refl
+hears-dropped x hold scrap (suc k) time d = ap linedIn (scrapDropped x hold scrap k time d)
 
 -- more units allowed: a scrap goes on from where the first left it, or has ended there
 module _ (s : List ℕ) (t b : ℕ) where
