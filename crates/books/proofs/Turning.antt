@@ -2,24 +2,29 @@
 use Prim.Native.Nat.{ℕ, _+_, _-_, _*_, _≤_, _<_}
 use native.Mathlib.Omega.{arith}
 use mathlib.Core.Path.{_≡_, refl, sym, ap, _∙_}
-use mathlib.Core.Bool.{Bool, true, false, cond}
+use mathlib.Core.Bool.{Bool, true, false, cond, not}
 use mathlib.Core.List.{List, [], _∷_}
 use mathlib.Core.Option.{Option, none, some}
 use lib.ListN.{length, take, drop, getD, length-drop}
+use lib.Dec.{eqb}
 use lib.Seq.{take-all}
 use borrow.Author.Needs.{needs}
 use borrow.Author.Tests.{lt-ltb, le-ltb}
 use borrow.Rule.Slice.PartMut.{putMid}
-use Rattle.ground.specs.Choice.{all}
+use Rattle.ground.specs.Choice.{first, all}
 use Rattle.wire.specs.Number.{field}
 use Rattle.slots.specs.Layout.{landed, countIn, answer, turn}
+use Rattle.slots.specs.Layout as layout
 use Rattle.slots.specs.Code.Turns.{ready, startOf, settledIn, slotTurn, within, placeTurn, heldTurn}
 use Rattle.slots.proofs.Turning as slotted
 use Rattle.slots.proofs.Turning.{slotting, turn-is, held-is}
-use Rattle.wire.specs.Codes.{listedCode}
+use Rattle.slots.specs.declared.Slot.{Slot}
+use Rattle.slots.specs.declared.Slot.the-variants.{Held, Free, Full}
+use Rattle.ground.proofs.Bools.{cond-same}
+use Rattle.wire.specs.Codes.{securityCode, listedCode}
 use Rattle.ladder.specs.Message.{noEntries, hasEntries, entriesFrom, entries, listedEntry, listedBook}
-use Rattle.ladder.specs.Walk.{Book, emptyBook, walk, bookAfter}
-use Rattle.ladder.specs.Words.{bookWidth, sound, wordsOf}
+use Rattle.ladder.specs.Walk.{Book, emptyBook, walk, bookAfter, dropped, droppedBy}
+use Rattle.ladder.specs.Words.{bookWidth, bookOf, sound, wordsOf}
 use Rattle.ladder.specs.Code.Arrays as arrays
 use Rattle.ladder.specs.Code.Arrays.{Sides}
 use Rattle.ladder.specs.Code.Loading.{settled, rowsIn}
@@ -27,8 +32,8 @@ use Rattle.ladder.specs.declared.Entry.{Entry}
 use Rattle.ladder.specs.declared.Row.{Row}
 use Rattle.ladder.proofs.Walks.{empty-sides}
 use Rattle.ladder.proofs.Tells.{sides-padded}
-use Rattle.books.specs.Table.{books, placeIn, block, stepOf, unsound, noSlot, misfits, bookAnswer, booksAfter}
-use Rattle.books.specs.Code.Turns.{startRows, startCounts, empties, bookTurn}
+use Rattle.books.specs.Table.{books, placeIn, block, stepOf, bookAt, misfit, unsoundAt, noneFree, unsound, noSlot, misfits, bookAnswer, booksAfter, rowsDropped}
+use Rattle.books.specs.Code.Turns.{startRows, startCounts, empties, bookTurn, slotDrops, placeDrops}
 use Rattle.books.proofs.Frames.{no-slot}
 
 pub long-part : (m : List ℕ) → 12 ≤ length m → take (length m - 12) (drop 12 m) ≡ drop 12 m
@@ -72,6 +77,19 @@ module _ (own t : Bool) (w : List ℕ) (rows : List (List Row)) (counts : List �
       go true = refl
       go false = refl
 
+  -- how many rows its entries drop
+  pub ready-drops : (d time : ℕ) (es : List Entry) → d ≡ droppedBy time es (arrays.asBook rows counts) → d ≡ slotDrops own time es w
+  unfolding slotDrops
+  ready-drops d time es h = h ∙ rw (r, k, go own, sym e ∙ y)
+    where
+      go : (o : Bool) → arrays.asBook (startRows o w) (startCounts o w) ≡ startOf books o w
+      go true = refl
+      go false = refl
+
+pub unready-drops : (own r : Bool) (w : List ℕ) (time : ℕ) (es : List Entry) → r ≡ ready books own w → r ≡ false → 0 ≡ slotDrops own time es w
+unfolding slotDrops
+unready-drops own r w time es e n = rw (sym e ∙ n)
+
 -- a code's own slot, emptied
 pub emptied-words : (b : Bool) (w u : List ℕ) (c : ℕ) → b ≡ sound w → b ≡ true → u ≡ wordsOf c emptyBook → landed 0 u ≡ slotTurn books true c empties w
 unfolding slotTurn
@@ -82,6 +100,40 @@ pub slot-turn : (own : Bool) (k : ℕ) (t u : List ℕ) (c r : ℕ) (step : Book
     → landed r u ≡ slotTurn books own c step (take (bookWidth * k + bookWidth - bookWidth * k) (drop (bookWidth * k) t))
     → landed r (putMid (bookWidth * k) (bookWidth * k + bookWidth - bookWidth * k) t u) ≡ within books k t (slotTurn books own c step (block k t))
 slot-turn = slotted.slot-turn books
+
+pub slot-drops : (own : Bool) (k : ℕ) (t : List ℕ) (d time : ℕ) (es : List Entry) → k < countIn books (length t)
+    → d ≡ slotDrops own time es (take (bookWidth * k + bookWidth - bookWidth * k) (drop (bookWidth * k) t)) → d ≡ slotDrops own time es (block k t)
+slot-drops own k t d time es h e = e ∙ ap (slotDrops own time es) (slotted.part-is books k t h)
+
+-- by the slot that was found
+module _ (c time : ℕ) (es : List Entry) (t : List ℕ) (f : Slot) (e : f ≡ placeIn c t) where
+  pub held-drops : (k d : ℕ) → f ≡ Held k → d ≡ slotDrops true time es (block k t) → d ≡ placeDrops (placeIn c t) time es t
+  unfolding placeDrops
+  held-drops k d h q = q ∙ rw (sym e ∙ h)
+
+  pub free-drops : (k d : ℕ) → f ≡ Free k → d ≡ slotDrops false time es (block k t) → d ≡ placeDrops (placeIn c t) time es t
+  unfolding placeDrops
+  free-drops k d h q = q ∙ rw (sym e ∙ h)
+
+  pub full-drops : f ≡ Full → 0 ≡ placeDrops (placeIn c t) time es t
+  unfolding placeDrops
+  full-drops h = rw (sym e ∙ h)
+
+drops-at : (p : Slot) (time : ℕ) (es : List Entry) (t : List ℕ)
+    → placeDrops p time es t ≡ cond (eqb (first ((unsoundAt p t, 18) ∷ (noneFree p, 17) ∷ (misfit (walk time es (bookAt p t)), 16) ∷ []) 0) 0) (dropped time es (bookAt p t)) 0
+unfolding placeDrops slotDrops first layout.unsoundAt layout.noneFree layout.valueAt
+drops-at (Held k) time es t = go (sound (block k t)) (misfit (walk time es (bookOf (block k t)))) (dropped time es (bookOf (block k t)))
+  where
+    go : (x y : Bool) (n : ℕ) → cond x (cond y 0 n) 0 ≡ cond (eqb (cond (not x) 18 (cond y 16 0)) 0) n 0
+    go true true n = refl
+    go true false n = refl
+    go false y n = refl
+drops-at (Free k) time es t = go (misfit (walk time es emptyBook)) (dropped time es emptyBook)
+  where
+    go : (y : Bool) (n : ℕ) → cond y 0 n ≡ cond (eqb (cond y 16 0) 0) n 0
+    go true n = refl
+    go false n = refl
+drops-at Full time es t = refl
 
 -- the same on the table
 table-turn : (time : ℕ) (m t : List ℕ) → turn books (stepOf time m) t ≡ bookTurn time m t
@@ -123,6 +175,18 @@ module _ (time : ℕ) (m t : List ℕ) (k c r : ℕ) (u : List ℕ) (ek : k ≡ 
       let makes : bookAfter time m ≡ walk time (entries m) = ap makes-by more in
       (rw (ec, ek, long-part m (omega (arith, h))) at q) ∙ rw (← makes) (turn-is books (stepOf time m) t more) ∙ table-turn time m t
 
+  pub emptied-drops : k ≡ 0 → 0 ≡ rowsDropped time m t
+  unfolding rowsDropped
+  emptied-drops z =
+      let none : hasEntries m ≡ false = le-ltb 0 (noEntries m) (omega (arith, ek, z)) in
+      rw none (sym (cond-same (eqb (bookAnswer time m t) 0) 0))
+
+  pub placed-drops : (d : ℕ) → length m ≡ 12 + 24 * noEntries m → d ≡ placeDrops (placeIn c t) time (entriesFrom k 0 (partOf m)) t → (k ≡ 0 → ⊥) → d ≡ rowsDropped time m t
+  unfolding rowsDropped bookAnswer unsound noSlot misfits
+  placed-drops d h q nz =
+      let more : hasEntries m ≡ true = lt-ltb 0 (noEntries m) (omega (arith, ek, nz)) in
+      (rw (ec, ek, long-part m (omega (arith, h))) at q) ∙ drops-at (placeIn (securityCode m) t) time (entries m) t ∙ rw more
+
 pub ruleset turning = (
   needs,
   slotting,
@@ -139,4 +203,12 @@ pub ruleset turning = (
   emptied-words,
   emptied-turn,
   placed-turn,
+  ready-drops,
+  unready-drops,
+  slot-drops,
+  held-drops,
+  free-drops,
+  full-drops,
+  emptied-drops,
+  placed-drops,
 )

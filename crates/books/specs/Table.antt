@@ -1,8 +1,9 @@
 -- A book message on the lent table of books (document 01, "The book table", "Entries, against a side of n rows"). Assumes nothing.
 use Prim.Native.Nat.{ℕ}
-use mathlib.Core.Bool.{Bool, _&&_}
+use mathlib.Core.Bool.{Bool, cond, _&&_}
 use mathlib.Core.List.{List, [], _∷_}
 use mathlib.Core.Option.{Option}
+use lib.Dec.{eqb}
 use Rattle.ground.specs.Choice.{first}
 use Rattle.slots.specs.Slots.{maxSlots}
 use Rattle.slots.specs.Layout as table
@@ -10,7 +11,7 @@ use Rattle.slots.specs.Layout.{Layout, Step, stepped}
 use Rattle.slots.specs.declared.Slot.{Slot}
 use Rattle.wire.specs.Codes.{securityCode}
 use Rattle.ladder.specs.Message.{hasEntries}
-use Rattle.ladder.specs.Walk.{Book, emptyBook, bookAfter}
+use Rattle.ladder.specs.Walk.{Book, emptyBook, bookAfter, messageDrops}
 use Rattle.ladder.specs.Words.{bookWidth, bookOf, wordsOf, sound}
 
 -- "One book is 64 words; slots are whole blocks of 64, at most 4,096": what holds of any table of slots is said in slots/specs/Layout
@@ -78,3 +79,7 @@ bookAnswer time m t =
 -- no book and takes no slot". Document 02, request 1: it empties the code's book, and a code without one still takes no slot.)
 unfoldable pub booksAfter : ℕ → List ℕ → List ℕ → List ℕ
 booksAfter time m t = stepped books (stepOf time m) t
+
+-- document 02, request 6: how many rows a message drops, "and 0 for a refused message"
+unfoldable pub rowsDropped : ℕ → List ℕ → List ℕ → ℕ
+rowsDropped time m t = cond (eqb (bookAnswer time m t) 0) (messageDrops time m (bookIn (securityCode m) t)) 0

@@ -10,14 +10,15 @@ ghost use Rattle.ladder.specs.Message.{depth, noEntries, entriesAt, entrySize, 
 ghost use Rattle.ladder.specs.Walk.{walk};
 ghost use Rattle.ladder.specs.Words.{bookWidth, rowWidth, sideWidth, rowOf};
 ghost use Rattle.wire.specs.Number.{word32};
-ghost use Rattle.books.specs.Table.{books, placeIn, block as blockOf};
-ghost use Rattle.books.specs.Code.Turns.{startRows, startCounts, empties, bookTurn};
+ghost use Rattle.books.specs.Table.{books, placeIn, block as blockOf, rowsDropped};
+ghost use Rattle.books.specs.Code.Turns.{startRows, startCounts, empties, bookTurn, slotDrops, placeDrops};
 ghost use Rattle.books.specs.Reading.{rowRefused, levelOf};
 ghost use Rattle.books.specs.Code.Rows.{rowOfSide, rowOfBook, Priced, sideRefused, sideOfWords, sideOfBook};
 ghost use Rattle.books.specs.Contracts.{RowSays, SideSays};
 use ladder::BOOK_WORDS;
 use ladder::DEPTH;
 use ladder::Row;
+use ladder::Walked;
 use slots::MOST;
 use slots::Slot;
 
@@ -81,16 +82,26 @@ fn counts_in(words: &[u64], own: bool) -> [usize; 2]
 }
 
 // A slot's words after n entries: 18 where it is a code's own and its book is not sound.
-fn in_words(words: &mut [u64], own: bool, code: u64, part: &[u8], n: usize, time: u64) -> u64
+fn in_words(
+    words: &mut [u64],
+    own: bool,
+    code: u64,
+    part: &[u8],
+    n: usize,
+    time: u64,
+) -> Walked
     requires { ⌜ (length (now words) ≡ bookWidth) × (entrySize * n ≤ length (now part)) ⌝ }
-    ensures { λ r. ⌜ landed r (now (words .exit)) ≡ slotTurn books own code (walk time (entriesFrom n 0 (now (part .entry)))) (now (words .entry)) ⌝ }
+    ensures { λ r. ⌜ (landed (r .answer) (now (words .exit)) ≡ slotTurn books own code (walk time (entriesFrom n 0 (now (part .entry)))) (now (words .entry))) × (r .dropped ≡ slotDrops own time (entriesFrom n 0 (now (part .entry))) (now (words .entry))) ⌝ }
 {
     if is_ready(words, own) {
         let rows = rows_in(words, own);
         let counts = counts_in(words, own);
         return ladder::walk(words, code, rows, counts, part, n, time);
     }
-    18
+    Walked {
+        answer: 18,
+        dropped: 0,
+    }
 }
 
 // One slot of the table after n entries: its 64 words are lent on, and no other word can be reached.
@@ -102,9 +113,9 @@ fn in_slot(
     part: &[u8],
     n: usize,
     time: u64,
-) -> u64
+) -> Walked
     requires { ⌜ (k < countIn books (length (now table))) × (entrySize * n ≤ length (now part)) ⌝ }
-    ensures { λ r. ⌜ landed r (now (table .exit)) ≡ within books k (now (table .entry)) (slotTurn books own code (walk time (entriesFrom n 0 (now (part .entry)))) (blockOf k (now (table .entry)))) ⌝ }
+    ensures { λ r. ⌜ (landed (r .answer) (now (table .exit)) ≡ within books k (now (table .entry)) (slotTurn books own code (walk time (entriesFrom n 0 (now (part .entry)))) (blockOf k (now (table .entry))))) × (r .dropped ≡ slotDrops own time (entriesFrom n 0 (now (part .entry))) (blockOf k (now (table .entry)))) ⌝ }
 {
     let a = BOOK_WORDS * k;
     let b = a + BOOK_WORDS;
@@ -112,15 +123,18 @@ fn in_slot(
 }
 
 // The table after n entries for a code: in the lowest slot with the code, else the lowest free one, else 17.
-fn placed(table: &mut [u64], code: u64, part: &[u8], n: usize, time: u64) -> u64
+fn placed(table: &mut [u64], code: u64, part: &[u8], n: usize, time: u64) -> Walked
     requires { ⌜ entrySize * n ≤ length (now part) ⌝ }
-    ensures { λ r. ⌜ landed r (now (table .exit)) ≡ placeTurn books (placeIn code (now (table .entry))) code (walk time (entriesFrom n 0 (now (part .entry)))) (now (table .entry)) ⌝ }
+    ensures { λ r. ⌜ (landed (r .answer) (now (table .exit)) ≡ placeTurn books (placeIn code (now (table .entry))) code (walk time (entriesFrom n 0 (now (part .entry)))) (now (table .entry))) × (r .dropped ≡ placeDrops (placeIn code (now (table .entry))) time (entriesFrom n 0 (now (part .entry))) (now (table .entry))) ⌝ }
 {
     let slot = slots::find(table, MOST, BOOK_WORDS, code);
     match slot {
         Slot::Held(k) => in_slot(table, k, true, code, part, n, time),
         Slot::Free(k) => in_slot(table, k, false, code, part, n, time),
-        Slot::Full => 17,
+        Slot::Full => Walked {
+            answer: 17,
+            dropped: 0,
+        },
     }
 }
 
@@ -178,14 +192,18 @@ pub fn clear(table: &mut [u64])
 }
 
 // A book message of the right size on the table: 18, 17, 16 or 0, in that order; only with 0 is anything written.
-pub fn take(table: &mut [u64], m: &[u8], time: u64) -> u64
+// With it comes how many rows its entries dropped.
+pub fn take(table: &mut [u64], m: &[u8], time: u64) -> Walked
     requires { ⌜ length (now m) ≡ entriesAt + entrySize * noEntries (now m) ⌝ }
-    ensures { λ r. ⌜ landed r (now (table .exit)) ≡ bookTurn time (now (m .entry)) (now (table .entry)) ⌝ }
+    ensures { λ r. ⌜ (landed (r .answer) (now (table .exit)) ≡ bookTurn time (now (m .entry)) (now (table .entry))) × (r .dropped ≡ rowsDropped time (now (m .entry)) (now (table .entry))) ⌝ }
 {
     let n = wire::u8_in(m, ladder::NO_ENTRIES_AT) as usize;
     let code = wire::u32_in(m, wire::CODE_AT);
     if n == 0 {
-        return emptied(table, code);
+        return Walked {
+            answer: emptied(table, code),
+            dropped: 0,
+        };
     }
     let part = &m[ladder::ENTRIES_AT..];
     placed(table, code, part, n, time)

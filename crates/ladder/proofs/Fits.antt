@@ -3,6 +3,7 @@ use Prim.Native.Nat.{ℕ, suc, _+_, _-_, _≤_, _<_}
 use mathlib.Core.Path.{_≡_, refl, ap, sym, _∙_}
 use mathlib.Core.Bool.{Bool, true, false, cond, not, _&&_, _||_, or-true, false≢true}
 use mathlib.Core.List.{List, [], _∷_, _++_}
+use mathlib.Core.Option.{Option, none, some}
 use native.Mathlib.Decide.{decLe, decLt}
 use native.Mathlib.Omega.{arith}
 use lib.Dec.{leb, ltb, eqb}
@@ -12,14 +13,16 @@ use borrow.Author.Tests.{lt-ltb, le-ltb, le-leb, lt-leb, eq-eqb, ne-eqb, leb-tru
 use Rattle.ground.specs.Choice.{pick}
 use Rattle.ground.proofs.Bools.{both, cond-same, cond-test}
 use Rattle.ladder.specs.Message.{depth, listedRank}
-use Rattle.ladder.specs.Sides.{better, noRow, rowAt, has, newFits, newRows, changeFits, changeRows, deleteFits, deleteRows, fits, rowsAfter}
+use Rattle.ladder.specs.Sides.{better, noRow, rowAt, has, newFits, newRows, changeFits, changeRows, deleteFits, deleteRows, fits, rowsAfter, pushedOut, fellFrom, wasDropped}
 use Rattle.ladder.specs.Words.{pad}
-use Rattle.ladder.specs.Code.Arrays.{Side, live, Padded, fitsAt, wayOf, tenAfter, countAfter}
+use Rattle.ladder.specs.Code.Arrays.{Side, live, Padded, fitsAt, wayOf, tenAfter, countAfter, dropsTenth, appliedTo}
 use Rattle.ladder.specs.declared.Way.{Way}
 use Rattle.ladder.specs.declared.Way.the-variants.{Bid, Offer}
 use Rattle.ladder.specs.declared.Row.{Row}
 use Rattle.ladder.specs.declared.Entry.{Entry}
-use Rattle.ladder.proofs.Shift.{ins, del, length-ins, length-del}
+use Rattle.ladder.specs.declared.Applied.{Applied}
+use Rattle.slots.specs.Layout.{orAsItWas}
+use Rattle.ladder.proofs.Shift.{ins, del, length-ins, length-del, getD-after}
 use Rattle.ladder.proofs.Pads.{live-n, live-at, pad-new, pad-change, pad-delete}
 
 pub bid-better : (w : Way) (a b : ℕ) → w ≡ Bid → ltb b a ≡ better w a b
@@ -166,6 +169,32 @@ module _ (w : Way) (e : Entry) (s : List Row) (h : fits w e s ≡ true) where
       go false a true b = g (eqb-true (e .action) 1 b)
       go false a false b = k (fit-delete (eqb-false (e .action) 0 a) (eqb-false (e .action) 1 b))
 
+  -- and the row that it drops is the tenth of ten, at whatever rank a new one comes in
+  fell-new : e .action ≡ 0 → pushedOut (e .level) (e .row) s ≡ cond (leb depth (length s)) (some (rowAt s depth)) none
+  unfolding pushedOut has
+  fell-new a = go (decLe depth (length s))
+    where
+      k : e .level - 1 ≤ length s
+      k = omega (arith, fit-new a)
+
+      r : e .level ≤ depth
+      r = fit-rank w e s h .1
+
+      long : length (ins (e .level - 1) (e .row) s) ≡ length s + 1
+      long = length-ins noRow s (e .level - 1) (e .row) k
+
+      go : Dec (depth ≤ length s) → cond (leb 11 (length (ins (e .level - 1) (e .row) s))) (some (getD (ins (e .level - 1) (e .row) s) 10 noRow)) none ≡ cond (leb depth (length s)) (some (rowAt s depth)) none
+      go (yes t) = rw (le-leb 11 (length (ins (e .level - 1) (e .row) s)) (omega (arith, long)), le-leb depth (length s) t, getD-after noRow (e .level - 1) 9 (e .row) s k (omega (arith, r)))
+      go (no t) = rw (lt-leb 11 (length (ins (e .level - 1) (e .row) s)) (omega (arith, long)), lt-leb depth (length s) (omega arith))
+
+  pub fell-is : fellFrom e s ≡ cond (dropsTenth (e .action) (length s)) (some (rowAt s depth)) none
+  unfolding fellFrom dropsTenth pick
+  fell-is = go (eqb (e .action) 0) refl
+    where
+      go : (b : Bool) → eqb (e .action) 0 ≡ b → cond b (pushedOut (e .level) (e .row) s) none ≡ cond (b && leb depth (length s)) (some (rowAt s depth)) none
+      go true q = fell-new (eqb-true (e .action) 0 q)
+      go false q = refl
+
 -- the ten rows and the count that the code makes are those of the rows after the entry
 module _ (w : Way) (s : Side) (e : Entry) (p : Padded s) (h : fits w e (live s) ≡ true) where
   rank : (1 ≤ e .level) × (e .level ≤ depth)
@@ -223,6 +252,57 @@ module _ (w : Way) (s : Side) (e : Entry) (p : Padded s) (h : fits w e (live s) 
       one : 1 ≤ s .n → (eqb (e .action) 0 || leb 1 (s .n)) ≡ true
       one m = rw (le-leb 1 (s .n) m) (or-true (eqb (e .action) 0))
 
+  -- a side of ten has its tenth row at place 9
+  tenth : dropsTenth (e .action) (s .n) ≡ true → getD (s .rows) 9 noRow ≡ rowAt (live s) depth
+  unfolding dropsTenth
+  tenth q =
+      let full : depth ≤ s .n = leb-true depth (s .n) (both (eqb (e .action) 0) (leb depth (s .n)) q .1) in
+      sym (live-at s p 9 (omega arith))
+
+  dropped-is : (dropsTenth (e .action) (s .n) ≡ wasDropped (fellFrom e (live s))) × (cond (dropsTenth (e .action) (s .n)) (getD (s .rows) 9 noRow) noRow ≡ orAsItWas (fellFrom e (live s)) noRow)
+  unfolding wasDropped orAsItWas
+  dropped-is = rw (fell-is w e (live s) h, long-live) (go (dropsTenth (e .action) (s .n)) tenth)
+    where
+      go : (b : Bool) → (b ≡ true → getD (s .rows) 9 noRow ≡ rowAt (live s) depth)
+          → (b ≡ wasDropped (cond b (some (rowAt (live s) depth)) none)) × (cond b (getD (s .rows) 9 noRow) noRow ≡ orAsItWas (cond b (some (rowAt (live s) depth)) none) noRow)
+      go true t = (refl, t refl)
+      go false t = (refl, refl)
+
+  pub applied-is : (rows : List Row) (count : ℕ) (dropped : Bool) (last : Row) → rows ≡ tenAfter e (s .rows) → count ≡ countAfter (e .action) (s .n)
+      → dropped ≡ dropsTenth (e .action) (s .n) → last ≡ cond dropped (getD (s .rows) 9 noRow) noRow
+      → _≡_ {A = Applied} (record { rows = rows; count = count; dropped = dropped; last = last }) (appliedTo e (live s))
+  applied-is rows count dropped last er ec ed el =
+      λ i. record {
+        rows = (er ∙ ten-after) i;
+        count = (ec ∙ count-is) i;
+        dropped = (ed ∙ dropped-is .0) i;
+        last = (el ∙ ap (λ (b : Bool). cond b (getD (s .rows) 9 noRow) noRow) ed ∙ dropped-is .1) i;
+      }
+
+-- the same, as the code has a side
+pub apply-rank : (w : Way) (e : Entry) (n : ℕ) (rows : List Row) → fits w e (take n rows) ≡ true → (1 ≤ e .level) × (e .level ≤ depth)
+apply-rank w e n rows = fit-rank w e (take n rows)
+
+module _ (e : Entry) (n : ℕ) (rows : List Row) (p : Padded (record { n = n; rows = rows })) (f : fits (wayOf (e .side)) e (take n rows) ≡ true) where
+  pub apply-one : (eqb (e .action) 0 || leb 1 n) ≡ true
+  apply-one = has-one (wayOf (e .side)) (record { n = n; rows = rows }) e p f
+
+  pub apply-done : (x : List Row) (m : ℕ) (d : Bool) (l z : Row) → x ≡ tenAfter e rows → m ≡ countAfter (e .action) n → d ≡ dropsTenth (e .action) n → z ≡ noRow → l ≡ cond d (getD rows 9 noRow) z
+      → _≡_ {A = Applied} (record { rows = x; count = m; dropped = d; last = l }) (appliedTo e (take n rows))
+  apply-done x m d l z ex em ed ez el =
+      applied-is (wayOf (e .side)) (record { n = n; rows = rows }) e p f x m d l ex em ed (el ∙ ap (λ (r : Row). cond d (getD rows 9 noRow) r) ez)
+
+pub ruleset applying = (needs, apply-rank, apply-one, apply-done)
+
+-- whether an entry drops the tenth row, by its action
+pub drops-new : (action n : ℕ) → action ≡ 0 → leb depth n ≡ dropsTenth action n
+unfolding dropsTenth
+drops-new action n e = rw (eq-eqb action 0 e)
+
+pub drops-none : (action n : ℕ) → (action ≡ 0 → ⊥) → false ≡ dropsTenth action n
+unfolding dropsTenth
+drops-none action n e = rw (ne-eqb action 0 e)
+
 pub way-bid : (side : ℕ) → side ≡ 0 → Bid ≡ wayOf side
 way-bid side e = rw (eq-eqb side 0 e)
 
@@ -244,6 +324,8 @@ pub ruleset fitting = (
   is-far,
   is-change,
   is-delete,
+  drops-new,
+  drops-none,
   way-bid,
   way-offer,
 )

@@ -13,19 +13,21 @@ use borrow.Author.Tests.{le-leb, lt-leb, eq-eqb, ne-eqb}
 use Rattle.ground.specs.Choice.{oneOf, pick, all}
 use Rattle.wire.specs.Number.{field, biased}
 use Rattle.ground.proofs.Bools.{cond-same, split}
-use Rattle.slots.specs.Layout.{landed, orAsItWas}
+use Rattle.slots.specs.Layout.{landed, misfit, orAsItWas}
 use Rattle.ladder.specs.Message.{depth, entrySize, entryOf, entryAt, entriesFrom, hasEntries, entries, listedEntry, listedSide, listedRank}
-use Rattle.ladder.specs.Sides.{noRow, newRows, changeRows, deleteRows, fits, rowsAfter, onSide}
-use Rattle.ladder.specs.Walk.{Book, emptyBook, withBids, withOffers, onBook, walk, bookAfter}
-use Rattle.ladder.specs.Code.Arrays.{Side, live, Padded, sideAt, asBook, Sides, emptyRows, emptyCounts, wayOf, fitsAt, tenAfter, countAfter}
+use Rattle.ladder.specs.Sides.{noRow, newRows, changeRows, deleteRows, fits, rowsAfter, fellFrom, wasDropped, onSide}
+use Rattle.ladder.specs.Walk.{Book, emptyBook, withBids, withOffers, onBook, walk, fellOff, dropped, droppedBy, bookAfter}
+use Rattle.ladder.specs.Code.Arrays.{Side, live, Padded, sideAt, asBook, Sides, emptyRows, emptyCounts, wayOf, fitsAt, appliedTo, refused}
 use Rattle.ladder.specs.Code.Loading.{settled}
 use Rattle.ladder.specs.Words.{bookWidth, noRows, wordsOf}
 use Rattle.ladder.specs.declared.Way.{Way}
 use Rattle.ladder.specs.declared.Way.the-variants.{Bid, Offer}
 use Rattle.ladder.specs.declared.Row.{Row}
 use Rattle.ladder.specs.declared.Entry.{Entry}
+use Rattle.ladder.specs.declared.Applied.{Applied}
+use Rattle.ladder.specs.declared.Walked.{Walked}
 use Rattle.ladder.proofs.Pads.{live-n, live-of, padded-of}
-use Rattle.ladder.proofs.Fits.{fits-is, ten-after, count-is, has-one}
+use Rattle.ladder.proofs.Fits.{fits-is}
 
 pub entry-made : (quantity raw orders side level action price : ℕ) → price ≡ biased raw
     → _≡_ {A = Entry} (record { row = record { price = price; quantity = quantity; orders = orders }; side = side; level = level; action = action }) (entryOf quantity raw orders side level action)
@@ -146,7 +148,7 @@ module _ (time : ℕ) (e : Entry) (b : Book) where
   unfolding onBook
   on-clear a = rw (eq-eqb (e .action) 74 a)
 
-  no-side : (e .action ≡ 74 → ⊥) → 1 < e .side → onBook time e b ≡ none
+  pub no-side : (e .action ≡ 74 → ⊥) → 1 < e .side → onBook time e b ≡ none
   unfolding onBook pick
   no-side a d = rw (ne-eqb (e .action) 74 a, ne-eqb (e .side) 0 (λ z. omega arith), ne-eqb (e .side) 1 (λ z. omega arith))
 
@@ -154,6 +156,11 @@ module _ (time : ℕ) (e : Entry) (b : Book) where
   no-rank : (e .action ≡ 74 → ⊥) → listedRank (e .level) ≡ false → onBook time e b ≡ none
   unfolding onBook onSide fits pick
   no-rank a r = rw (ne-eqb (e .action) 74 a, r) (ap (cond (eqb (e .side) 0) none) (cond-same (eqb (e .side) 1) none) ∙ cond-same (eqb (e .side) 0) none)
+
+-- a clear drops no row
+fell-clear : (e : Entry) (b : Book) → e .action ≡ 74 → fellOff e b ≡ none
+unfolding fellOff
+fell-clear e b a = rw (eq-eqb (e .action) 74 a)
 
 -- two sides, of which side k is the one that an entry is for
 module _ (rows : List (List Row)) (counts : List ℕ) (two : (length rows ≡ 2) × (length counts ≡ 2)) where
@@ -191,6 +198,13 @@ module _ (rows : List (List Row)) (counts : List ℕ) (two : (length rows ≡ 2)
   not-side time e (suc zero) a d h f = rw (ne-eqb (e .action) 74 a, ne-eqb (e .side) 0 (λ z. omega arith), eq-eqb (e .side) 1 d, f)
   not-side time e (suc (suc k)) a d h f = absurd (omega arith)
 
+  -- the row dropped is one of that side
+  fell-side : (e : Entry) (k : ℕ) → (e .action ≡ 74 → ⊥) → e .side ≡ k → k ≤ 1 → fellOff e (asBook rows counts) ≡ fellFrom e (live (sideAt k rows counts))
+  unfolding fellOff pick
+  fell-side e zero a d h = rw (ne-eqb (e .action) 74 a, eq-eqb (e .side) 0 d)
+  fell-side e (suc zero) a d h = rw (ne-eqb (e .action) 74 a, ne-eqb (e .side) 0 (λ z. omega arith), eq-eqb (e .side) 1 d)
+  fell-side e (suc (suc k)) a d h = absurd (omega arith)
+
 -- an empty book's sides
 pub empty-sides : Sides emptyRows emptyCounts
 unfolding noRows
@@ -205,8 +219,9 @@ side-padded rows counts zero p h = p .bids
 side-padded rows counts (suc zero) p h = p .offers
 side-padded rows counts (suc (suc k)) p h = absurd (omega arith)
 
--- what is left of the walk from the i-th entry on comes to what all of it does, and the words stay until then
-pub record Walking (time : ℕ) (s : List ℕ) (n : ℕ) (w₀ : List ℕ) (rows₀ : List (List Row)) (counts₀ w : List ℕ) (rows : List (List Row)) (counts : List ℕ) (i : ℕ) : Type 0 where
+-- what is left of the walk from the i-th entry on comes to what all of it does, and the words stay until then; the rows dropped so far and those that
+-- the rest drops are all that are
+pub record Walking (time : ℕ) (s : List ℕ) (n : ℕ) (w₀ : List ℕ) (rows₀ : List (List Row)) (counts₀ w : List ℕ) (rows : List (List Row)) (counts : List ℕ) (d i : ℕ) : Type 0 where
   pub upto : i ≤ n
   pub room : entrySize * n ≤ length s
   pub long : length w ≡ bookWidth
@@ -214,9 +229,11 @@ pub record Walking (time : ℕ) (s : List ℕ) (n : ℕ) (w₀ : List ℕ) (rows
   pub two : (length rows ≡ 2) × (length counts ≡ 2)
   pub sides : Sides rows counts
   pub same : walk time (rest n i s) (asBook rows counts) ≡ walk time (entriesFrom n 0 s) (asBook rows₀ counts₀)
+  pub few : d ≤ i
+  pub tally : d + dropped time (rest n i s) (asBook rows counts) ≡ dropped time (entriesFrom n 0 s) (asBook rows₀ counts₀)
 
 pub walk-starts : (time : ℕ) (s : List ℕ) (n : ℕ) (w : List ℕ) (rows : List (List Row)) (counts : List ℕ) → (length w ≡ bookWidth) × Sides rows counts × (entrySize * n ≤ length s)
-    → length rows ≡ 2 → length counts ≡ 2 → Walking time s n w rows counts w rows counts 0
+    → length rows ≡ 2 → length counts ≡ 2 → Walking time s n w rows counts w rows counts 0 0
 walk-starts time s n w rows counts p r c = record {
   upto = omega arith;
   room = p .2;
@@ -225,14 +242,24 @@ walk-starts time s n w rows counts p r c = record {
   two = (r, c);
   sides = p .1;
   same = ap (λ (es : List Entry). walk time es (asBook rows counts)) (rest-all n s);
+  few = omega arith;
+  tally = omega (arith, ap (λ (es : List Entry). dropped time es (asBook rows counts)) (rest-all n s));
 }
 
-pub walk-ends : (time : ℕ) (s : List ℕ) (n c : ℕ) (w₀ : List ℕ) (rows₀ : List (List Row)) (counts₀ w u : List ℕ) (rows : List (List Row)) (counts : List ℕ) (i : ℕ)
-    → Walking time s n w₀ rows₀ counts₀ w rows counts i → n ≤ i → u ≡ wordsOf c (asBook rows counts) → landed 0 u ≡ settled c (walk time (entriesFrom n 0 s) (asBook rows₀ counts₀)) w₀
-unfolding walk
-walk-ends time s n c w₀ rows₀ counts₀ w u rows counts i p h e =
-    let f : walk time (entriesFrom n 0 s) (asBook rows₀ counts₀) ≡ some (asBook rows counts) = sym (p .same) ∙ ap (λ (es : List Entry). walk time es (asBook rows counts)) (rest-none n i s h) in
-    rw (f, e)
+module _ (time : ℕ) (s : List ℕ) (n c : ℕ) (w₀ : List ℕ) (rows₀ : List (List Row)) (counts₀ w : List ℕ) (rows : List (List Row)) (counts : List ℕ) (d i : ℕ)
+    (p : Walking time s n w₀ rows₀ counts₀ w rows counts d i) (h : n ≤ i) where
+  ended : walk time (entriesFrom n 0 s) (asBook rows₀ counts₀) ≡ some (asBook rows counts)
+  unfolding walk
+  ended = sym (p .same) ∙ ap (λ (es : List Entry). walk time es (asBook rows counts)) (rest-none n i s h)
+
+  pub walk-ends : (u : List ℕ) → u ≡ wordsOf c (asBook rows counts) → landed 0 u ≡ settled c (walk time (entriesFrom n 0 s) (asBook rows₀ counts₀)) w₀
+  walk-ends u e = rw (ended, e)
+
+  pub ends-count : d ≡ droppedBy time (entriesFrom n 0 s) (asBook rows₀ counts₀)
+  unfolding dropped misfit
+  ends-count =
+      let none : dropped time (rest n i s) (asBook rows counts) ≡ 0 = ap (λ (es : List Entry). dropped time es (asBook rows counts)) (rest-none n i s h) in
+      rw ended (omega (arith, none, p .tally))
 
 -- the test on numbers told whether the entry fits its side
 pub fits-told : (rows : List (List Row)) (counts : List ℕ) (e : Entry) (way : Way) (t f : Bool) (up : ℕ) → Sides rows counts → e .side ≤ 1 → 1 ≤ e .level → e .level ≤ depth → way ≡ wayOf (e .side) → up ≡ e .level - 2
@@ -241,60 +268,96 @@ pub fits-told : (rows : List (List Row)) (counts : List ℕ) (e : Entry) (way : 
 fits-told rows counts e way t f up p k a b y u q r =
     fits-is (wayOf (e .side)) (sideAt (e .side) rows counts) e (side-padded rows counts (e .side) p k) a b ∙ rw (← u, ← y) (sym q ∙ r)
 
-module _ (time : ℕ) (s : List ℕ) (n : ℕ) (w₀ : List ℕ) (rows₀ : List (List Row)) (counts₀ w : List ℕ) (rows : List (List Row)) (counts : List ℕ) (i : ℕ)
-    (p : Walking time s n w₀ rows₀ counts₀ w rows counts i) (h : i < n) (e : Entry) (q : e ≡ entryAt (entrySize * i) s) where
+module _ (time : ℕ) (s : List ℕ) (n : ℕ) (w₀ : List ℕ) (rows₀ : List (List Row)) (counts₀ w : List ℕ) (rows : List (List Row)) (counts : List ℕ) (d i : ℕ)
+    (p : Walking time s n w₀ rows₀ counts₀ w rows counts d i) (h : i < n) (e : Entry) (q : e ≡ entryAt (entrySize * i) s) where
   one-more : bind (onBook time e (asBook rows counts)) (walk time (rest n (i + 1) s)) ≡ walk time (entriesFrom n 0 s) (asBook rows₀ counts₀)
   unfolding walk
   one-more = rw q (sym (ap (λ (es : List Entry). walk time es (asBook rows counts)) (rest-more n i s h)) ∙ p .same)
 
-  goes : (rows′ : List (List Row)) (counts′ : List ℕ) → (length rows′ ≡ 2) × (length counts′ ≡ 2) → Sides rows′ counts′ → onBook time e (asBook rows counts) ≡ some (asBook rows′ counts′)
-      → Walking time s n w₀ rows₀ counts₀ w rows′ counts′ (i + 1)
+  one-tally : d + (cond (wasDropped (fellOff e (asBook rows counts))) 1 0 + dropped time (rest n (i + 1) s) (orAsItWas (onBook time e (asBook rows counts)) (asBook rows counts)))
+      ≡ dropped time (entriesFrom n 0 s) (asBook rows₀ counts₀)
+  unfolding dropped
+  one-tally = rw q (sym (ap (λ (es : List Entry). d + dropped time es (asBook rows counts)) (rest-more n i s h)) ∙ p .tally)
+
+  goes : (rows′ : List (List Row)) (counts′ : List ℕ) (b : Bool) → (length rows′ ≡ 2) × (length counts′ ≡ 2) → Sides rows′ counts′ → onBook time e (asBook rows counts) ≡ some (asBook rows′ counts′)
+      → b ≡ wasDropped (fellOff e (asBook rows counts)) → Walking time s n w₀ rows₀ counts₀ w rows′ counts′ (d + cond b 1 0) (i + 1)
+  unfolding bind orAsItWas
+  goes rows′ counts′ b two sides f g = record {
+    upto = omega arith;
+    room = p .room;
+    long = p .long;
+    stays = p .stays;
+    two = two;
+    sides = sides;
+    same = rw f at one-more;
+    few = go b;
+    tally =
+        let t : d + (cond b 1 0 + dropped time (rest n (i + 1) s) (asBook rows′ counts′)) ≡ dropped time (entriesFrom n 0 s) (asBook rows₀ counts₀) = rw g (rw f at one-tally) in
+        omega (arith, t);
+  }
+    where
+      go : (b : Bool) → d + cond b 1 0 ≤ i + 1
+      go true = omega (arith, p .few)
+      go false = omega (arith, p .few)
+
+  -- an entry that does not fit ends it
+  ends : onBook time e (asBook rows counts) ≡ none → walk time (entriesFrom n 0 s) (asBook rows₀ counts₀) ≡ none
   unfolding bind
-  goes rows′ counts′ two sides f = record { upto = omega arith; room = p .room; long = p .long; stays = p .stays; two = two; sides = sides; same = rw f at one-more }
+  ends f = sym (rw f at one-more)
 
-  stops : (c : ℕ) → onBook time e (asBook rows counts) ≡ none → landed 16 w ≡ settled c (walk time (entriesFrom n 0 s) (asBook rows₀ counts₀)) w₀
-  unfolding bind
-  stops c f = ap (landed 16) (p .stays) ∙ ap (λ (r : Option Book). settled c r w₀) (rw f at one-more)
+  pub stops : (c : ℕ) (r : Walked) → r ≡ refused → onBook time e (asBook rows counts) ≡ none → landed (r .answer) w ≡ settled c (walk time (entriesFrom n 0 s) (asBook rows₀ counts₀)) w₀
+  stops c r y f = ap (λ (x : Walked). landed (x .answer) w) y ∙ ap (landed 16) (p .stays) ∙ ap (λ (o : Option Book). settled c o w₀) (sym (ends f))
 
-  pub walk-clear : (rows′ : List (List Row)) → e .action ≡ 74 → rows′ ≡ emptyRows → Walking time s n w₀ rows₀ counts₀ w rows′ emptyCounts (i + 1)
-  walk-clear rows′ a r = rw r (goes emptyRows emptyCounts (refl, refl) empty-sides (on-clear time e (asBook rows counts) a))
+  pub stops-count : (r : Walked) → r ≡ refused → onBook time e (asBook rows counts) ≡ none → r .dropped ≡ droppedBy time (entriesFrom n 0 s) (asBook rows₀ counts₀)
+  unfolding misfit
+  stops-count r y f = ap (λ (x : Walked). x .dropped) y ∙ sym (ap (λ (o : Option Book). cond (misfit o) 0 (dropped time (entriesFrom n 0 s) (asBook rows₀ counts₀))) (ends f))
 
-  pub walk-side : (x : List Row) (m : ℕ) → (e .action ≡ 74 → ⊥) → e .side ≤ 1 → fits (wayOf (e .side)) e (live (sideAt (e .side) rows counts)) ≡ true
-      → x ≡ tenAfter e (getD rows (e .side) []) → m ≡ countAfter (e .action) (getD counts (e .side) 0)
-      → Walking time s n w₀ rows₀ counts₀ w (set rows (e .side) x) (set counts (e .side) m) (i + 1)
-  walk-side x m a d f ex em =
+  pub walk-clear : (rows′ : List (List Row)) → e .action ≡ 74 → rows′ ≡ emptyRows → Walking time s n w₀ rows₀ counts₀ w rows′ emptyCounts d (i + 1)
+  unfolding wasDropped
+  walk-clear rows′ a r =
+      let none : d + 0 ≡ d = omega arith in
+      subst (λ (k : ℕ). Walking time s n w₀ rows₀ counts₀ w rows′ emptyCounts k (i + 1)) none
+      (rw r (goes emptyRows emptyCounts false (refl, refl) empty-sides (on-clear time e (asBook rows counts) a) (sym (ap wasDropped (fell-clear e (asBook rows counts) a)))))
+
+  pub walk-side : (a : Applied) (k : ℕ) → (e .action ≡ 74 → ⊥) → e .side ≤ 1 → fits (wayOf (e .side)) e (live (sideAt (e .side) rows counts)) ≡ true
+      → a ≡ appliedTo e (live (sideAt (e .side) rows counts)) → k ≡ cond (a .dropped) 1 0
+      → Walking time s n w₀ rows₀ counts₀ w (set rows (e .side) (a .rows)) (set counts (e .side) (a .count)) (d + k) (i + 1)
+  walk-side a k z u f ea ek =
       let side : Side = sideAt (e .side) rows counts in
       let l : List Row = rowsAfter e (live side) in
-      let pad = side-padded rows counts (e .side) (p .sides) d in
+      let pad = side-padded rows counts (e .side) (p .sides) u in
       let few = after-few e (live side) (omega (arith, live-n side pad, pad .few)) in
-      let tx : x ≡ take depth (l ++ noRows) = ex ∙ ten-after (wayOf (e .side)) side e pad f in
-      let tm : m ≡ length l = em ∙ count-is (wayOf (e .side)) side e pad f in
-      goes (set rows (e .side) x) (set counts (e .side) m) (length-set rows (e .side) x ∙ p .two .0, length-set counts (e .side) m ∙ p .two .1)
-      (set-sides rows counts (p .two) (e .side) x m d (p .sides) (rw (tx, tm) (padded-of l few)))
-      (on-side rows counts (p .two) time e (e .side) x m a refl d f (rw (tx, tm) (live-of l few)))
+      rw (ek, ea)
+      (goes (set rows (e .side) (take depth (l ++ noRows))) (set counts (e .side) (length l)) (wasDropped (fellFrom e (live side)))
+      (length-set rows (e .side) (take depth (l ++ noRows)) ∙ p .two .0, length-set counts (e .side) (length l) ∙ p .two .1)
+      (set-sides rows counts (p .two) (e .side) (take depth (l ++ noRows)) (length l) u (p .sides) (padded-of l few))
+      (on-side rows counts (p .two) time e (e .side) (take depth (l ++ noRows)) (length l) z refl u f (live-of l few))
+      (sym (ap wasDropped (fell-side rows counts (p .two) e (e .side) z refl u))))
+
+  pub side-fits : e .side ≤ 1 → fits (wayOf (e .side)) e (live (sideAt (e .side) rows counts)) ≡ true
+      → Padded (sideAt (e .side) rows counts) × (fits (wayOf (e .side)) e (live (sideAt (e .side) rows counts)) ≡ true)
+  side-fits u f = (side-padded rows counts (e .side) (p .sides) u, f)
+
+  -- at most one more a turn
+  pub count-room : (b : Bool) (k : ℕ) → k ≡ cond b 1 0 → d + k ≤ n
+  count-room true k y = omega (arith, p .few, y)
+  count-room false k y = omega (arith, p .few, y)
 
   pub count-few : e .side ≤ 1 → getD counts (e .side) 0 ≤ depth
-  count-few d = side-padded rows counts (e .side) (p .sides) d .few
+  count-few u = side-padded rows counts (e .side) (p .sides) u .few
 
-  pub count-one : e .side ≤ 1 → fits (wayOf (e .side)) e (live (sideAt (e .side) rows counts)) ≡ true → (eqb (e .action) 0 || leb 1 (getD counts (e .side) 0)) ≡ true
-  count-one d f = has-one (wayOf (e .side)) (sideAt (e .side) rows counts) e (side-padded rows counts (e .side) (p .sides) d) f
-
-  pub stop-zero : (c : ℕ) → (e .action ≡ 74 → ⊥) → e .level < 1 → landed 16 w ≡ settled c (walk time (entriesFrom n 0 s) (asBook rows₀ counts₀)) w₀
+  pub none-zero : (e .action ≡ 74 → ⊥) → e .level < 1 → onBook time e (asBook rows counts) ≡ none
   unfolding listedRank
-  stop-zero c a l = stops c (no-rank time e (asBook rows counts) a (rw (lt-leb 1 (e .level) l)))
+  none-zero a l = no-rank time e (asBook rows counts) a (rw (lt-leb 1 (e .level) l))
 
-  pub stop-eleven : (c : ℕ) → (e .action ≡ 74 → ⊥) → 1 ≤ e .level → depth < e .level → landed 16 w ≡ settled c (walk time (entriesFrom n 0 s) (asBook rows₀ counts₀)) w₀
+  pub none-eleven : (e .action ≡ 74 → ⊥) → 1 ≤ e .level → depth < e .level → onBook time e (asBook rows counts) ≡ none
   unfolding listedRank
-  stop-eleven c a l u = stops c (no-rank time e (asBook rows counts) a (rw (le-leb 1 (e .level) l, lt-leb (e .level) depth u)))
+  none-eleven a l u = no-rank time e (asBook rows counts) a (rw (le-leb 1 (e .level) l, lt-leb (e .level) depth u))
 
-  pub stop-side : (c : ℕ) → (e .action ≡ 74 → ⊥) → 1 < e .side → landed 16 w ≡ settled c (walk time (entriesFrom n 0 s) (asBook rows₀ counts₀)) w₀
-  stop-side c a d = stops c (no-side time e (asBook rows counts) a d)
+  pub none-fits : (e .action ≡ 74 → ⊥) → e .side ≤ 1 → fits (wayOf (e .side)) e (live (sideAt (e .side) rows counts)) ≡ false → onBook time e (asBook rows counts) ≡ none
+  none-fits a u f = not-side rows counts (p .two) time e (e .side) a refl u f
 
-  pub stop-misfit : (c : ℕ) → (e .action ≡ 74 → ⊥) → e .side ≤ 1 → fits (wayOf (e .side)) e (live (sideAt (e .side) rows counts)) ≡ false
-      → landed 16 w ≡ settled c (walk time (entriesFrom n 0 s) (asBook rows₀ counts₀)) w₀
-  stop-misfit c a d f = stops c (not-side rows counts (p .two) time e (e .side) a refl d f)
-
-pub ruleset walking = (needs, walk-starts, walk-ends, walk-clear, walk-side, count-few, count-one, stop-zero, stop-eleven, stop-side, stop-misfit, fits-told)
+pub ruleset walking = (needs, walk-starts, walk-ends, ends-count, walk-clear, count-few, stops, stops-count, none-zero, none-eleven, no-side, none-fits, fits-told)
 
 -- at most ten rows a side, of a book and of what may be a book
 abbrev pub Few : Book → Type 0

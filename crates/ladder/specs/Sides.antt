@@ -1,6 +1,6 @@
 -- A side, best row first, and what an entry makes of it (document 01, "Entries, against a side of n rows"). Assumes nothing.
 use Prim.Native.Nat.{ℕ, _+_, _-_}
-use mathlib.Core.Bool.{Bool, false, cond, not, _&&_, _||_}
+use mathlib.Core.Bool.{Bool, true, false, cond, not, _&&_, _||_}
 use mathlib.Core.List.{List, [], _∷_, _++_}
 use mathlib.Core.Option.{Option, none, some}
 use lib.ListN.{length, take, drop, getD, set}
@@ -35,8 +35,15 @@ newFits w p r s =
     && (not (has s p) || better w (r .price) (rowAt s p .price))
 
 -- "Rows from p move down; a row pushed to 11 is dropped"
+abbrev pub movedDown : ℕ → Row → List Row → List Row
+movedDown p r s = take (p - 1) s ++ (r ∷ drop (p - 1) s)
+
 unfoldable pub newRows : ℕ → Row → List Row → List Row
-newRows p r s = take depth (take (p - 1) s ++ (r ∷ drop (p - 1) s))
+newRows p r s = take depth (movedDown p r s)
+
+-- document 02, request 6: "whether a row was dropped, and which": the row pushed to 11, where there is one
+unfoldable pub pushedOut : ℕ → Row → List Row → Option Row
+pushedOut p r s = cond (has (movedDown p r s) 11) (some (rowAt (movedDown p r s) 11)) none
 
 -- "Change: p at most n, same price as row p"
 unfoldable pub changeFits : ℕ → Row → List Row → Bool
@@ -74,6 +81,15 @@ rowsAfter e s =
     ∷ (delete, deleteRows (e .level) s)
     ∷ [])
     s
+
+-- the row that an entry that fits drops: none but for a new level
+unfoldable pub fellFrom : Entry → List Row → Option Row
+fellFrom e s = pick (e .action) ((new, pushedOut (e .level) (e .row) s) ∷ []) none
+
+-- whether it dropped one
+unfoldable pub wasDropped : Option Row → Bool
+wasDropped none = false
+wasDropped (some r) = true
 
 -- the side after an entry, and none where it does not fit
 unfoldable pub onSide : Way → Entry → List Row → Option (List Row)

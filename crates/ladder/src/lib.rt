@@ -73,3 +73,17 @@ pub struct Entry {
     pub level: usize,
     pub action: u64,
 }
+
+// What an entry makes of a side: its ten rows and its count, whether a row was dropped, and the row, zero where none was.
+pub struct Applied {
+    pub rows: [Row; DEPTH],
+    pub count: usize,
+    pub dropped: bool,
+    pub last: Row,
+}
+
+// What a walk over the entries of a message says: its answer, and how many rows they dropped.
+pub struct Walked {
+    pub answer: u64,
+    pub dropped: u64,
+}

@@ -1,4 +1,5 @@
 // A side, ten rows by value: what an entry makes of it, and whether it fits (document 01, "Entries, against a side of n rows").
+use super::Applied;
 use super::CHANGE;
 use super::DELETE;
 use super::DEPTH;
@@ -9,12 +10,12 @@ use super::Way;
 ghost use mathlib.Core.Path.{_≡_};
 ghost use mathlib.Core.List.{[], _∷_, _++_};
 ghost use Prim.Native.Nat.{_+_, _≤_, _<_, min};
-ghost use lib.ListN.{set};
+ghost use lib.ListN.{take, set};
 ghost use mathlib.Core.Bool.{true, cond, _||_};
 ghost use lib.Dec.{leb, ltb, eqb};
 ghost use Rattle.ladder.specs.Message.{depth, new};
-ghost use Rattle.ladder.specs.Sides.{better, noRow, newRows, deleteRows};
-ghost use Rattle.ladder.specs.Code.Arrays.{fitsAt, tenAfter, countAfter, emptyRows};
+ghost use Rattle.ladder.specs.Sides.{better, noRow, newRows, deleteRows, fits};
+ghost use Rattle.ladder.specs.Code.Arrays.{Padded, wayOf, fitsAt, tenAfter, countAfter, dropsTenth, appliedTo, emptyRows};
 
 // The last place of ten.
 pub(crate) const LAST: usize = DEPTH - 1;
@@ -107,7 +108,7 @@ fn drop_row(rows: [Row; DEPTH], at: usize) -> [Row; DEPTH]
 }
 
 // The ten rows of a side after an entry that is new, a change, or else a delete: the one application, for either side.
-pub(crate) fn rows_after(rows: [Row; DEPTH], e: Entry) -> [Row; DEPTH]
+fn rows_after(rows: [Row; DEPTH], e: Entry) -> [Row; DEPTH]
     requires { ⌜ (1 ≤ e .level) × (e .level ≤ depth) ⌝ }
     ensures { λ r. ⌜ r ≡ tenAfter e rows ⌝ }
 {
@@ -131,7 +132,7 @@ fn one_more(n: usize) -> usize
 }
 
 // The count of a side of n rows after such an entry.
-pub(crate) fn count_after(n: usize, action: u64) -> usize
+fn count_after(n: usize, action: u64) -> usize
     requires { ⌜ (n ≤ depth) × ((eqb action new || leb 1 n) ≡ true) ⌝ }
     ensures { λ r. ⌜ r ≡ countAfter action n ⌝ }
 {
@@ -142,6 +143,35 @@ pub(crate) fn count_after(n: usize, action: u64) -> usize
         return n;
     }
     n - 1
+}
+
+// Whether such an entry drops the tenth row of a side of n rows.
+fn drops_tenth(n: usize, action: u64) -> bool
+    ensures { λ r. ⌜ r ≡ dropsTenth action n ⌝ }
+{
+    if action == NEW {
+        return DEPTH <= n;
+    }
+    false
+}
+
+// An entry applied to a side of n rows that it fits, and the row that it drops.
+pub(crate) fn apply(rows: [Row; DEPTH], n: usize, e: Entry) -> Applied
+    requires { ⌜ Padded (record { n = n; rows = rows }) × (fits (wayOf (e .side)) e (take n rows) ≡ true) ⌝ }
+    ensures { λ r. ⌜ r ≡ appliedTo e (take n rows) ⌝ }
+{
+    let tenth = rows[LAST];
+    let none = zero_row();
+    let dropped = drops_tenth(n, e.action);
+    let last = row_if(dropped, tenth, none);
+    let count = count_after(n, e.action);
+    let rows = rows_after(rows, e);
+    Applied {
+        rows,
+        count,
+        dropped,
+        last,
+    }
 }
 
 // Whether price a is strictly better than price b.

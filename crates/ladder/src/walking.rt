@@ -5,20 +5,21 @@ use super::DEPTH;
 use super::ENTRY_BYTES;
 use super::OFFER;
 use super::Row;
+use super::Walked;
 use super::Way;
 use super::entries::entry_at;
-use super::sides::count_after;
+use super::sides::apply;
 use super::sides::fits_at;
 use super::sides::no_rows;
-use super::sides::rows_after;
+use super::sides::word_if;
 use super::words::write_book;
 ghost use mathlib.Core.Path.{_≡_};
 ghost use Prim.Native.Nat.{_-_, _*_, _≤_};
 ghost use lib.ListN.{length};
 ghost use Rattle.slots.specs.Layout.{landed};
 ghost use Rattle.ladder.specs.Message.{entrySize, entriesFrom};
-ghost use Rattle.ladder.specs.Walk.{walk as walkBook};
-ghost use Rattle.ladder.specs.Code.Arrays.{Sides, wayOf, asBook};
+ghost use Rattle.ladder.specs.Walk.{walk as walkBook, droppedBy};
+ghost use Rattle.ladder.specs.Code.Arrays.{Sides, wayOf, asBook, refused as refusedWalk};
 ghost use Rattle.ladder.specs.Words.{bookWidth};
 ghost use Rattle.ladder.specs.Code.Loading.{settled};
 
@@ -39,6 +40,16 @@ fn way_of(side: u64) -> Way
     Way::Offer
 }
 
+// What a walk says that an entry ends which does not fit.
+fn misfit() -> Walked
+    ensures { λ r. ⌜ r ≡ refusedWalk ⌝ }
+{
+    Walked {
+        answer: 16,
+        dropped: 0,
+    }
+}
+
 // The walk over n entries: each meets the sides as the entries before it left them, and the first that does not fit ends it with 16. After the last,
 // the book is written over its words.
 pub fn walk(
@@ -49,15 +60,16 @@ pub fn walk(
     part: &[u8],
     n: usize,
     time: u64,
-) -> u64
+) -> Walked
     requires { ⌜ (length (now words) ≡ bookWidth) × Sides rows counts × (entrySize * n ≤ length (now part)) ⌝ }
-    ensures { λ r. ⌜ landed r (now (words .exit)) ≡ settled code (walkBook time (entriesFrom n 0 (now (part .entry))) (asBook rows counts)) (now (words .entry)) ⌝ }
+    ensures { λ r. ⌜ (landed (r .answer) (now (words .exit)) ≡ settled code (walkBook time (entriesFrom n 0 (now (part .entry))) (asBook rows counts)) (now (words .entry))) × (r .dropped ≡ droppedBy time (entriesFrom n 0 (now (part .entry))) (asBook rows counts)) ⌝ }
 {
+    let mut dropped = 0;
     let mut i = 0;
     'walk: loop {
         if n <= i {
             write_book(words, code, rows, counts);
-            break 'walk 0;
+            break 'walk Walked { answer: 0, dropped };
         }
         let e = entry_at(part, ENTRY_BYTES * i);
         let row = e.row;
@@ -69,13 +81,13 @@ pub fn walk(
             continue 'walk;
         }
         if level < 1 {
-            break 'walk 16;
+            break 'walk misfit();
         }
         if DEPTH < level {
-            break 'walk 16;
+            break 'walk misfit();
         }
         if OFFER < e.side {
-            break 'walk 16;
+            break 'walk misfit();
         }
         let way = way_of(e.side);
         let w = e.side as usize;
@@ -93,10 +105,13 @@ pub fn walk(
             old.price,
             row.price,
         ) {
-            counts[w] = count_after(count, e.action);
-            rows[w] = rows_after(rows[w], e);
+            let applied = apply(rows[w], count, e);
+            dropped += word_if(applied.dropped, 1, 0);
+            let after = applied.rows;
+            counts[w] = applied.count;
+            rows[w] = after;
             continue 'walk;
         }
-        break 'walk 16;
+        break 'walk misfit();
     }
 }

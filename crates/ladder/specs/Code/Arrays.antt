@@ -3,17 +3,20 @@ use Prim.Native.Nat.{ℕ, _+_, _-_, _≤_, min}
 use mathlib.Core.Path.{_≡_}
 use mathlib.Core.Bool.{Bool, false, cond, _&&_, _||_}
 use mathlib.Core.List.{List, [], _∷_, _++_}
-use lib.ListN.{take, getD, set}
+use lib.ListN.{length, take, getD, set}
 use lib.Dec.{ltb, leb, eqb}
 use Rattle.ground.specs.Choice.{pick}
+use Rattle.slots.specs.Layout.{orAsItWas}
 use Rattle.ladder.specs.Message.{new, change, delete, depth, bidSide}
-use Rattle.ladder.specs.Sides.{better, noRow, newRows, deleteRows}
+use Rattle.ladder.specs.Sides.{better, noRow, newRows, deleteRows, rowsAfter, fellFrom, wasDropped}
 use Rattle.ladder.specs.Walk.{Book}
 use Rattle.ladder.specs.Words.{noRows, pad}
 use Rattle.ladder.specs.declared.Way.{Way}
 use Rattle.ladder.specs.declared.Way.the-variants.{Bid, Offer}
 use Rattle.ladder.specs.declared.Row.{Row}
 use Rattle.ladder.specs.declared.Entry.{Entry}
+use Rattle.ladder.specs.declared.Applied.{Applied}
+use Rattle.ladder.specs.declared.Walked.{Walked}
 
 -- ten rows, of which n are used
 pub record Side : Type 0 where
@@ -73,3 +76,21 @@ tenAfter e rows =
 
 unfoldable pub countAfter : ℕ → ℕ → ℕ
 countAfter action n = pick action ((new, min depth (n + 1)) ∷ (change, n) ∷ []) (n - 1)
+
+-- whether such an entry drops the tenth row of a side of n rows
+unfoldable pub dropsTenth : ℕ → ℕ → Bool
+dropsTenth action n = eqb action new && leb depth n
+
+-- all that the application of an entry that fits says of a side's rows: ten rows and a count after it, whether a row was dropped, and the row ("zeros if
+-- none was dropped")
+abbrev pub appliedTo : Entry → List Row → Applied
+appliedTo e s = record {
+  rows = pad (rowsAfter e s);
+  count = length (rowsAfter e s);
+  dropped = wasDropped (fellFrom e s);
+  last = orAsItWas (fellFrom e s) noRow;
+}
+
+-- what a walk says that an entry ends which does not fit
+abbrev pub refused : Walked
+refused = record { answer = 16; dropped = 0 }
