@@ -80,6 +80,10 @@ bookAnswer time m t =
 unfoldable pub booksAfter : ℕ → List ℕ → List ℕ → List ℕ
 booksAfter time m t = stepped books (stepOf time m) t
 
--- document 02, request 6: how many rows a message drops, "and 0 for a refused message"
+-- document 02, request 6: how many rows a message drops that is taken, ..
+abbrev pub dropsIn : ℕ → List ℕ → List ℕ → ℕ
+dropsIn time m t = messageDrops time m (bookIn (securityCode m) t)
+
+-- .. "and 0 for a refused message"
 unfoldable pub rowsDropped : ℕ → List ℕ → List ℕ → ℕ
-rowsDropped time m t = cond (eqb (bookAnswer time m t) 0) (messageDrops time m (bookIn (securityCode m) t)) 0
+rowsDropped time m t = cond (eqb (bookAnswer time m t) 0) (dropsIn time m t) 0

@@ -17,7 +17,7 @@ use Rattle.feed.specs.Events.{Tables, State, Arrive, Overrun, timeOf, Ne
 use Rattle.feed.specs.declared.Answer.{Answer}
 use Rattle.feed.specs.declared.Answer.the-variants.{Keep, Lose, Take}
 use Rattle.feed.specs.Answers.{number, arrives, lacksNeed, isMore, isTooLong, lineTests, tableTests, tests, answerTo}
-use Rattle.feed.specs.Steps.{Outcome, accepted, usedOf, act, handed, outcome}
+use Rattle.feed.specs.Steps.{Outcome, accepted, usedOf, act, droppedOn, handed, outcome}
 use Rattle.feed.specs.Code.Judging.{answered}
 use Rattle.feed.specs.declared.Feed.{Feed}
 
@@ -85,11 +85,11 @@ used-whole x s time h u e l = rw (h, e) l
 module _ (x : State) (s : List ℕ) (time : ℕ) where
   -- 10 and 11 look at no byte
   early : ltb time (x .feed .heard) ≡ true → outcome x (Arrive s time) ≡ keeps 10 x
-  unfolding outcome handed timeOf usedOf number act tests lineTests tableTests first
+  unfolding outcome handed timeOf usedOf number act droppedOn tests lineTests tableTests first
   early e = rw e
 
   closed : ltb time (x .feed .heard) ≡ false → deaf (x .feed .phase) ≡ true → outcome x (Arrive s time) ≡ keeps 11 x
-  unfolding outcome handed timeOf news usedOf number act tests lineTests tableTests first arrives cutFrom
+  unfolding outcome handed timeOf news usedOf number act droppedOn tests lineTests tableTests first arrives cutFrom
   closed e d = go (unitOf s)
     where
       go : (u : Unit) → handed (first (tests (x .feed) (x .tables) time (cutFrom s u)) (Take 0)) x (Arrive s time) ≡ keeps 11 x
@@ -98,7 +98,7 @@ module _ (x : State) (s : List ℕ) (time : ℕ) where
       go (unit.Message q i n) = rw (e, d)
 
   wants : ltb time (x .feed .heard) ≡ false → deaf (x .feed .phase) ≡ false → unitOf s ≡ unit.More → outcome x (Arrive s time) ≡ keeps 3 x
-  unfolding outcome handed timeOf news usedOf number act tests lineTests tableTests first arrives lacksNeed isTooLong isMore cutFrom
+  unfolding outcome handed timeOf news usedOf number act droppedOn tests lineTests tableTests first arrives lacksNeed isTooLong isMore cutFrom
   wants e d u = rw (u, e, d)
 
   -- what is answered 3 leaves all as it is

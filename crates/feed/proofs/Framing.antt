@@ -12,13 +12,13 @@ use mir.Val.{Fits}
 use borrow.Author.Needs.{needs}
 use borrow.Author.Tests.{le-leb, lt-leb}
 use Rattle.ground.proofs.Bools.{split}
-use Rattle.feed.specs.Events.{Tables, Arrive}
+use Rattle.feed.specs.Events.{Tables, State, Arrive}
 use Rattle.feed.specs.Steps.{Outcome, accepted, lent, stateOf, outOf, outcome}
 use Rattle.feed.specs.Frames.{Framed, framedOf, opened, onward, through}
 use Rattle.feed.specs.declared.Feed.{Feed}
 use Rattle.feed.specs.declared.Given.{Given}
 use Rattle.feed.specs.declared.Frame.{Frame}
-use Rattle.feed.proofs.Laws.{used-fits}
+use Rattle.feed.proofs.Laws.{used-fits, drops-fit}
 
 -- one arrival: the bytes that it uses are within those there are, and it is counted where it is accepted
 module _ (s : List ℕ) (n : ℕ) (x : Framed) where
@@ -27,6 +27,11 @@ module _ (s : List ℕ) (n : ℕ) (x : Framed) where
   onward-fits h =
       let q = used-fits (stateOf (x .frame .feed) (x .tables)) (drop (x .frame .used) s) n in
       omega (arith, q, length-drop (x .frame .used) s)
+
+  -- and so are the rows that it drops
+  pub onward-few : x .frame .dropped ≤ x .frame .used → onward s n x .frame .dropped ≤ onward s n x .frame .used
+  unfolding onward
+  onward-few h = omega (arith, drops-fit (stateOf (x .frame .feed) (x .tables)) (drop (x .frame .used) s) n)
 
   pub onward-counts : accepted (onward s n x .frame .answer) ≡ true → onward s n x .frame .accepted ≡ x .frame .accepted + 1
   unfolding onward
@@ -52,12 +57,12 @@ module _ (x : Frame) (t u : Tables) (s : List ℕ) (n : ℕ) (g : Given)
   same = rw (take-all (length s - x .used) (drop (x .used) s) (rw (length-drop (x .used) s) (omega arith))) at e
 
   pub stands-counted : g .answer ≤ 2
-      → framedOf (record { answer = g .answer; accepted = x .accepted + 1; used = x .used + g .used; feed = g .feed }) u ≡ onward s n (framedOf x t)
+      → framedOf (record { answer = g .answer; accepted = x .accepted + 1; used = x .used + g .used; feed = g .feed; dropped = x .dropped + g .dropped }) u ≡ onward s n (framedOf x t)
   unfolding onward
   stands-counted h = rw (← same, le-leb (g .answer) 2 h)
 
   pub stands-ended : 2 < g .answer
-      → framedOf (record { answer = g .answer; accepted = x .accepted; used = x .used + g .used; feed = g .feed }) u ≡ onward s n (framedOf x t)
+      → framedOf (record { answer = g .answer; accepted = x .accepted; used = x .used + g .used; feed = g .feed; dropped = x .dropped + g .dropped }) u ≡ onward s n (framedOf x t)
   unfolding onward
   stands-ended h = rw (← same, lt-leb (g .answer) 2 h)
 
@@ -67,10 +72,17 @@ module _ (x : Frame) (t u : Tables) (s : List ℕ) (n : ℕ) (g : Given)
       let q = used-fits (stateOf (x .feed) t) (drop (x .used) s) n in
       record { fits = omega (arith, p, q, length-drop (x .used) s) }
 
+  pub dropped-adds : x .used ≤ length s → x .dropped ≤ x .used → length s < 2 ^ 64 → Fits w64 (x .dropped + g .dropped)
+  dropped-adds h d l =
+      let y : State = stateOf (x .feed) t in
+      let p : g .dropped ≡ outcome y (Arrive (drop (x .used) s) n) .given .dropped = ap (λ (o : Outcome). o .given .dropped) same in
+      record { fits = omega (arith, p, d, drops-fit y (drop (x .used) s) n, used-fits y (drop (x .used) s) n, length-drop (x .used) s) }
+
 -- what the loop keeps: what is left to do from here ends where all of it ends
 pub record Goes (all : ℕ) (x₀ : Frame) (t₀ : Tables) (s : List ℕ) (n : ℕ) (x : Frame) (t : Tables) : Type 0 where
   pub ends : through (all - x .accepted) s n (framedOf x t) ≡ through all s n (framedOf x₀ t₀)
   pub inside : x .used ≤ length s
+  pub few : x .dropped ≤ x .used
   pub upto : x .accepted ≤ all
   pub bounded : all < 2 ^ 64
   pub same-books : length (t .books) ≡ length (t₀ .books)
@@ -79,11 +91,11 @@ pub record Goes (all : ℕ) (x₀ : Frame) (t₀ : Tables) (s : List ℕ) (n : �
 pub go-start : (f : Feed) (b c s : List ℕ) (n all : ℕ) → Fits w64 all → Goes all (opened f) (lent b c) s n (opened f) (lent b c)
 go-start f b c s n all h =
     let z : all - 0 ≡ all = omega arith in
-    record { ends = rw z; inside = omega arith; upto = omega arith; bounded = h .fits; same-books = refl; same-strips = refl }
+    record { ends = rw z; inside = omega arith; few = omega arith; upto = omega arith; bounded = h .fits; same-books = refl; same-strips = refl }
 
 module _ (all : ℕ) (x₀ : Frame) (t₀ : Tables) (s : List ℕ) (n : ℕ) (x : Frame) (t : Tables) (g : Goes all x₀ t₀ s n x t) where
-  pub go-asks : x .accepted < all → (x .used ≤ length s) × (x .accepted < 18446744073709551615)
-  go-asks l = (g .inside, omega (arith, g .bounded))
+  pub go-asks : x .accepted < all → (x .used ≤ length s) × (x .accepted < 18446744073709551615) × (x .dropped ≤ x .used)
+  go-asks l = (g .inside, omega (arith, g .bounded), g .few)
 
   pub go-done : all ≤ x .accepted → framedOf x t ≡ through all s n (framedOf x₀ t₀)
   unfolding through
@@ -110,9 +122,11 @@ module _ (all : ℕ) (x₀ : Frame) (t₀ : Tables) (s : List ℕ) (n : ℕ) (x 
         let p = counted-on h in
         let z : all - x .accepted - 1 ≡ all - y .accepted = omega (arith, p) in
         let w : y .used ≡ onward s n (framedOf x t) .frame .used = ap (λ (o : Framed). o .frame .used) e in
+        let v : y .dropped ≡ onward s n (framedOf x t) .frame .dropped = ap (λ (o : Framed). o .frame .dropped) e in
         record {
           ends = rw (← z, e) (sym (through-on s n (framedOf x t) (all - x .accepted - 1) (taken h)) ∙ left);
           inside = rw w (onward-fits s n (framedOf x t) (g .inside));
+          few = rw (w, v) (onward-few s n (framedOf x t) (g .few));
           upto = omega (arith, p);
           bounded = g .bounded;
           same-books = b ∙ g .same-books;
@@ -197,13 +211,13 @@ module _ (s : List ℕ) (n : ℕ) where
       record { before = suc (r .before); well = rw z (r .well); last = rw z (r .last) })
       (λ k x e w h. record { before = 0; well = unfold through in w; last = unfold through in refl })
 
--- p units and q bytes before a frame are p and q more of them, and nothing else
-abbrev pub further : ℕ → ℕ → Framed → Framed
-further p q y =
-    framedOf (record { answer = y .frame .answer; accepted = p + y .frame .accepted; used = q + y .frame .used; feed = y .frame .feed }) (y .tables)
+-- p units, q bytes and d rows before a frame are p, q and d more of them, and nothing else
+abbrev pub further : ℕ → ℕ → ℕ → Framed → Framed
+further p q d y =
+    framedOf (record { answer = y .frame .answer; accepted = p + y .frame .accepted; used = q + y .frame .used; feed = y .frame .feed; dropped = d + y .frame .dropped }) (y .tables)
 
-module _ (p q : ℕ) (s : List ℕ) (n : ℕ) where
-  onward-further : (y : Framed) → onward s n (further p q y) ≡ further p q (onward (drop q s) n y)
+module _ (p q d : ℕ) (s : List ℕ) (n : ℕ) where
+  onward-further : (y : Framed) → onward s n (further p q d y) ≡ further p q d (onward (drop q s) n y)
   unfolding onward
   onward-further y =
       let o : Outcome = outcome (stateOf (y .frame .feed) (y .tables)) (Arrive (drop (y .frame .used) (drop q s)) n) in
@@ -214,6 +228,7 @@ module _ (p q : ℕ) (s : List ℕ) (n : ℕ) where
         accepted = more (accepted (o .given .answer)) (y .frame .accepted) i;
         used = add-assoc q (y .frame .used) (o .given .used) i;
         feed = o .given .feed;
+        dropped = add-assoc d (y .frame .dropped) (o .given .dropped) i;
       })
       (o .tables))
     where
@@ -221,11 +236,11 @@ module _ (p q : ℕ) (s : List ℕ) (n : ℕ) where
       more true a = add-assoc p a 1
       more false a = refl
 
-  pub through-further : (k : ℕ) (y : Framed) → through k s n (further p q y) ≡ further p q (through k (drop q s) n y)
+  pub through-further : (k : ℕ) (y : Framed) → through k s n (further p q d y) ≡ further p q d (through k (drop q s) n y)
   through-further =
-      walk (drop q s) n (λ k y z. through k s n (further p q y) ≡ further p q z)
+      walk (drop q s) n (λ k y z. through k s n (further p q d y) ≡ further p q d z)
       (λ y. unfold through in refl)
-      (λ k y z e on. through-on s n (further p q y) k (rw (onward-further y) e) ∙ ap (through k s n) (onward-further y) ∙ on)
-      (λ k y e. through-ends s n (further p q y) k (rw (onward-further y) e) ∙ onward-further y)
+      (λ k y z e on. through-on s n (further p q d y) k (rw (onward-further y) e) ∙ ap (through k s n) (onward-further y) ∙ on)
+      (λ k y e. through-ends s n (further p q d y) k (rw (onward-further y) e) ∙ onward-further y)
 
-pub ruleset frames = (needs, stands-counted, stands-ended, used-adds, go-start, go-asks, go-done, go-less, go-more, go-stop)
+pub ruleset frames = (needs, stands-counted, stands-ended, used-adds, dropped-adds, go-start, go-asks, go-done, go-less, go-more, go-stop)

@@ -21,7 +21,7 @@ use Rattle.ground.proofs.Choices.{noneUpto, first-skips}
 use Rattle.wire.proofs.Unit as the-unit
 use Rattle.wire.proofs.Fronts.{unit-fits, message-length}
 use Rattle.slots.specs.Layout.{Landed, landed, misfit, clearedIn, answer, turn}
-use Rattle.books.specs.Table.{books, bookAnswer, booksAfter}
+use Rattle.books.specs.Table.{books, bookAnswer, booksAfter, rowsDropped}
 use Rattle.strips.specs.Table as strip
 use Rattle.strips.specs.Table.{strips, stepOf, stripsAfter}
 use Rattle.books.specs.Code.Turns.{bookTurn}
@@ -30,8 +30,8 @@ use Rattle.feed.specs.Feeds.{deaf, inPhase, nextIs, internalIs, heardAt,
 use Rattle.feed.specs.Events.{Tables, clearedTables, Connect, Arrive, Cut, Overrun, timeOf, News, Linked, TooLong, Message, cutFrom, news, onMessage, newsSize, offered}
 use Rattle.feed.specs.Answers.{number, arrives, lacksNeed, isMore, isTooLong, isNext, allowed, seen, unsoundFor, noSlotFor, misfitsFor, passed, lineTests, tableTests, tests}
 use Rattle.feed.specs.Code.Judging.{verdict, refusal}
-use Rattle.feed.specs.Steps.{enterLive, isFresh, loggedOn, clearsOn, clears, tablesAfter, does, advanced, counted, taken, act, accepted, usedOf, Outcome, lent, stateOf, outOf, handed, outcome}
-use Rattle.feed.specs.Code.Judging.{clearedIf, answered, usedIs, onTables}
+use Rattle.feed.specs.Steps.{enterLive, isFresh, loggedOn, clearsOn, clears, tablesAfter, does, advanced, counted, taken, act, drops, newsDrops, droppedOn, accepted, usedOf, Outcome, lent, stateOf, outOf, handed, outcome}
+use Rattle.feed.specs.Code.Judging.{clearedIf, answered, usedIs, droppedIs, onTables}
 use Rattle.feed.specs.declared.Phase.the-variants.{WaitKey, WaitLogon, Lost, Closed}
 use Rattle.feed.specs.declared.Kind.{Kind}
 use Rattle.feed.specs.declared.Kind.the-variants.{Session, Market}
@@ -117,13 +117,13 @@ module _ (f : Feed) (b t m : List ℕ) (n q i : ℕ) (k : Kind) (a : k ≡ kindO
     pub session-cleared : (u v : List ℕ) → c ≡ true → lent u v ≡ clearedTables (lent b t)
         → ((r j : ℕ) (x : Tables) → stateOf y (clearedIf (clears s m (f .fresh)) x) ≡ taken n (Message r j m) (stateOf f x)) → g ≡ answered 0 y
         → outOf g (lent u v) ≡ onTables (stateOf f (lent b t)) (Cut q i m n)
-    unfolding onTables handed timeOf news number act usedOf offered
-    session-cleared u v h o w l = rw (no-tests, ← w q i x, ← d, h, l, o)
+    unfolding onTables handed timeOf news number act droppedOn newsDrops drops usedOf offered
+    session-cleared u v h o w l = rw (no-tests, ← w q i x, ← d, h, l, o, ← a, e)
 
     pub session-kept : c ≡ false → ((r j : ℕ) (x : Tables) → stateOf y (clearedIf (clears s m (f .fresh)) x) ≡ taken n (Message r j m) (stateOf f x)) → g ≡ answered 0 y
         → outOf g (lent b t) ≡ onTables (stateOf f (lent b t)) (Cut q i m n)
-    unfolding onTables handed timeOf news number act usedOf offered
-    session-kept h w l = rw (no-tests, ← w q i x, ← d, h, l)
+    unfolding onTables handed timeOf news number act droppedOn newsDrops drops usedOf offered
+    session-kept h w l = rw (no-tests, ← w q i x, ← d, h, l, ← a, e)
 
   module _ (d : Datum) (g : Given) (e : k ≡ Market d) where
     -- one that goes to a table, by what that table answers
@@ -137,38 +137,39 @@ module _ (f : Feed) (b t m : List ℕ) (n q i : ℕ) (k : Kind) (a : k ≡ kindO
 
       -- by whether it answers 0
       met-by : (z : Bool) → eqb theirs 0 ≡ z
-          → outOf (answered theirs (cond z (advanced n (counted (Market Other) i f)) (inPhase Lost (wholeIs false f)))) (cond z (tablesAfter d n m x) x)
+          → outOf (droppedIs (cond z (drops (Market d) n m x) 0) (answered theirs (cond z (advanced n (counted (Market Other) i f)) (inPhase Lost (wholeIs false f))))) (cond z (tablesAfter d n m x) x)
           ≡ handed (cond z (Take 0) (Spoil theirs)) (stateOf f x) (Cut q i m n)
-      unfolding handed timeOf news number act usedOf offered taken does counted market onMarket
+      unfolding handed timeOf news number act droppedOn newsDrops usedOf offered taken does counted market onMarket
       met-by true z = rw (← a, e, eqb-true theirs 0 z)
       met-by false z = rw (cond-same {A = ℕ} (leb theirs 2) 0)
 
-      met : (r : ℕ) (u : Tables) → r ≡ theirs → u ≡ cond (eqb theirs 0) (tablesAfter d n m x) x
-          → g ≡ answered r (cond (accepted r) (advanced n (counted (Market Other) i f)) (inPhase Lost (wholeIs false f)))
+      met : (r j : ℕ) (u : Tables) → r ≡ theirs → u ≡ cond (eqb theirs 0) (tablesAfter d n m x) x → j ≡ cond (eqb theirs 0) (drops (Market d) n m x) 0
+          → g ≡ droppedIs j (answered r (cond (accepted r) (advanced n (counted (Market Other) i f)) (inPhase Lost (wholeIs false f))))
           → outOf g u ≡ onTables (stateOf f x) (Cut q i m n)
       unfolding onTables timeOf news
-      met r u p v l =
-          rw (l, p, v, zero-accepted (unsoundFor (Market d) m x) (noSlotFor (Market d) m x) (misfitsFor (Market d) n m x), tests-are) (met-by (eqb theirs 0) refl)
+      met r j u p v w l =
+          rw (l, p, v, w, zero-accepted (unsoundFor (Market d) m x) (noSlotFor (Market d) m x) (misfitsFor (Market d) n m x), tests-are) (met-by (eqb theirs 0) refl)
 
-    pub book-met : (r : ℕ) (u : List ℕ) → d ≡ Book → landed r u ≡ bookTurn n m b
-        → g ≡ answered r (cond (accepted r) (advanced n (counted (Market Other) i f)) (inPhase Lost (wholeIs false f)))
+    pub book-met : (r j : ℕ) (u : List ℕ) (o : Given) → d ≡ Book → landed r u ≡ bookTurn n m b → j ≡ rowsDropped n m b
+        → o ≡ answered r (cond (accepted r) (advanced n (counted (Market Other) i f)) (inPhase Lost (wholeIs false f))) → g ≡ droppedIs j o
         → outOf g (lent u t) ≡ onTables (stateOf f (lent b t)) (Cut q i m n)
-    unfolding tabled unsoundFor noSlotFor misfitsFor tablesAfter bookAnswer first
-    book-met r u h w l =
-        met (rw h) r (lent u t) (ap (λ (y : Landed). y .answer) w ∙ rw h)
-        (ap (λ (y : Landed). lent (y .words) t) w ∙ rw h (books-if (eqb (bookAnswer n m b) 0) (booksAfter n m b) b t)) l
+    unfolding tabled unsoundFor noSlotFor misfitsFor tablesAfter drops bookAnswer rowsDropped first
+    book-met r j u o h w v l k =
+        met (rw h) r j (lent u t) (ap (λ (y : Landed). y .answer) w ∙ rw h)
+        (ap (λ (y : Landed). lent (y .words) t) w ∙ rw h (books-if (eqb (bookAnswer n m b) 0) (booksAfter n m b) b t)) (v ∙ rw h) (rw l at k)
 
     pub strip-met : (r : ℕ) (u : List ℕ) → d ≡ Strip → landed r u ≡ turn strips (stepOf m) t
         → g ≡ answered r (cond (accepted r) (advanced n (counted (Market Other) i f)) (inPhase Lost (wholeIs false f)))
         → outOf g (lent b u) ≡ onTables (stateOf f (lent b t)) (Cut q i m n)
-    unfolding tabled unsoundFor noSlotFor misfitsFor tablesAfter answer misfit strip.unsound strip.noSlot stripsAfter first
+    unfolding tabled unsoundFor noSlotFor misfitsFor tablesAfter drops answer misfit strip.unsound strip.noSlot stripsAfter first
     strip-met r u h w l =
-        met (rw h) r (lent b u) (ap (λ (y : Landed). y .answer) w ∙ rw h)
-        (ap (λ (y : Landed). lent b (y .words)) w ∙ rw h (strips-if (eqb (answer strips (stepOf m) t) 0) b (stripsAfter m t) t)) l
+        met (rw h) r 0 (lent b u) (ap (λ (y : Landed). y .answer) w ∙ rw h)
+        (ap (λ (y : Landed). lent b (y .words)) w ∙ rw h (strips-if (eqb (answer strips (stepOf m) t) 0) b (stripsAfter m t) t))
+        (rw h (sym (cond-same (eqb (answer strips (stepOf m) t) 0) 0))) l
 
     pub other-met : (y : Feed) → d ≡ Other → y ≡ advanced n (counted (Market Other) i f) → g ≡ answered 2 y
         → outOf g (lent b t) ≡ onTables (stateOf f (lent b t)) (Cut q i m n)
-    unfolding onTables handed first tableTests timeOf news onMessage unsoundFor noSlotFor misfitsFor passed onMarket tabled number act usedOf offered taken does tablesAfter counted market
+    unfolding onTables handed first tableTests timeOf news onMessage unsoundFor noSlotFor misfitsFor passed onMarket tabled number act droppedOn newsDrops drops usedOf offered taken does tablesAfter counted market
     other-met y h p l = rw (← a, e, h, ← a, e, h, l, p)
 
 -- 10 and 11: what two tests refuse is not 0, and where they refuse nothing both fail
@@ -269,19 +270,19 @@ module _ (f : Feed) (m : List ℕ) (n q i j : ℕ) (v : Answer) (e : v ≡ verdi
   -- a message already cut, with any tables
   module _ (x : Tables) where
     pub cut-kept : (g : Given) → v ≡ Keep j → g ≡ answered j f → outOf g x ≡ outcome (stateOf f x) (Cut q i m n)
-    unfolding handed timeOf news number act usedOf offered isTake
+    unfolding handed timeOf news number act droppedOn usedOf offered isTake
     cut-kept g h l = rw (l, alone f x (Cut q i m n) v e (rw h tt), h, cond-same {A = ℕ} (leb j 2) 0)
 
     pub cut-lost : (g : Given) → v ≡ Lose j → g ≡ answered j (inPhase Lost f) → outOf g x ≡ outcome (stateOf f x) (Cut q i m n)
-    unfolding handed timeOf news number act usedOf offered isTake
+    unfolding handed timeOf news number act droppedOn usedOf offered isTake
     cut-lost g h l = rw (l, alone f x (Cut q i m n) v e (rw h tt), h, cond-same {A = ℕ} (leb j 2) 0)
 
     pub cut-spoilt : (g : Given) → v ≡ Spoil j → g ≡ answered j (inPhase Lost (wholeIs false f)) → outOf g x ≡ outcome (stateOf f x) (Cut q i m n)
-    unfolding handed timeOf news number act usedOf offered isTake
+    unfolding handed timeOf news number act droppedOn usedOf offered isTake
     cut-spoilt g h l = rw (l, alone f x (Cut q i m n) v e (rw h tt), h, cond-same {A = ℕ} (leb j 2) 0)
 
     pub cut-seen : (g : Given) (y : Feed) → v ≡ Skip j → y ≡ advanced n f → g ≡ answered j y → outOf g x ≡ outcome (stateOf f x) (Cut q i m n)
-    unfolding handed timeOf news number act usedOf offered isTake
+    unfolding handed timeOf news number act droppedOn usedOf offered isTake
     cut-seen g y h d l = rw (l, d, alone f x (Cut q i m n) v e (rw h tt), h, cond-same {A = ℕ} (leb j 2) 0)
 
     pub cut-met : (o : Outcome) → v ≡ Take j → o ≡ onTables (stateOf f x) (Cut (f .next) i m n) → o ≡ outcome (stateOf f x) (Cut q i m n)
@@ -316,7 +317,7 @@ countedOut k o = record { given = usedIs (cond (accepted (o .given .answer)) k 0
 module _ (f : Feed) (x : Tables) (s : List ℕ) (n : ℕ) (u : Unit) (v : u ≡ unitOf s) where
   module _ (r : ℕ) (e : r ≡ refusal f n) where
     pub bytes-refused : (g : Given) → 0 < r → g ≡ answered r f → outOf g x ≡ outcome (stateOf f x) (Arrive s n)
-    unfolding handed timeOf news number act usedOf isTake
+    unfolding handed timeOf news number act droppedOn usedOf isTake
     bytes-refused g h l =
         let w : Keep r ≡ verdict f n (cutFrom s (unitOf s)) =
         rw e (refused-by f n (cutFrom s (unitOf s)) (arrives-cut s (unitOf s)) (ltb n (f .heard)) (deaf (f .phase)) (rw e at h) refl refl) in
@@ -326,12 +327,12 @@ module _ (f : Feed) (x : Tables) (s : List ℕ) (n : ℕ) (u : Unit) (v : u ≡ 
     heard-now h = refuses-none (ltb n (f .heard)) (deaf (f .phase)) (rw e at h)
 
     pub bytes-more : (g : Given) → r ≤ 0 → NoMessage u → NoHeartbeat u → g ≡ answered 3 f → outOf g x ≡ outcome (stateOf f x) (Arrive s n)
-    unfolding outcome handed first tests lineTests timeOf news cutFrom arrives lacksNeed isTooLong isMore number act usedOf
+    unfolding outcome handed first tests lineTests timeOf news cutFrom arrives lacksNeed isTooLong isMore number act droppedOn usedOf
     bytes-more g h c d l = rw (← v, is-more u c d, heard-now h .0, heard-now h .1, l)
 
     pub bytes-quiet : (y : Feed) (g k : Given) → r ≤ 0 → u ≡ unit.Heartbeat → y ≡ heardAt n f → g ≡ answered 0 y → k ≡ usedIs (cond (accepted (g .answer)) 20 0) g
         → outOf k x ≡ outcome (stateOf f x) (Arrive s n)
-    unfolding outcome handed first tests lineTests tableTests timeOf news cutFrom onMessage arrives lacksNeed isTooLong isMore number act taken usedOf offered newsSize
+    unfolding outcome handed first tests lineTests tableTests timeOf news cutFrom onMessage arrives lacksNeed isTooLong isMore number act droppedOn newsDrops taken usedOf offered newsSize
     bytes-quiet y g k h c a l w = rw (← v, c, heard-now h .0, heard-now h .1, w, l, a)
 
   pub bytes-message : (q i size used : ℕ) (g k : Given) (w : Tables) (p : List ℕ) → u ≡ unit.Message q i size → used ≡ 20 + size → p ≡ messageIn s size
@@ -348,13 +349,13 @@ sum-fits u s q i k a b l = record { fits = omega (arith, unit-fits s q i k (sym 
 -- what is longer than the holding buffer
 module _ (f : Feed) (n r : ℕ) (e : r ≡ refusal f n) (g : Given) (x : Tables) where
   pub overrun-refused : 0 < r → g ≡ answered r f → record { given = g; tables = x } ≡ outcome (record { feed = f; tables = x }) (Overrun n)
-  unfolding handed timeOf news number act usedOf offered arrives isTake
+  unfolding handed timeOf news number act droppedOn usedOf offered arrives isTake
   overrun-refused h l =
       let w : Keep r ≡ verdict f n TooLong = rw e (refused-by f n TooLong refl (ltb n (f .heard)) (deaf (f .phase)) (rw e at h) refl refl) in
       rw (l, alone f x (Overrun n) (Keep r) w tt, cond-same {A = ℕ} (leb r 2) 0)
 
   pub overrun-lost : r ≤ 0 → g ≡ answered 22 (inPhase Lost f) → record { given = g; tables = x } ≡ outcome (record { feed = f; tables = x }) (Overrun n)
-  unfolding outcome handed first tests lineTests timeOf news arrives lacksNeed isTooLong number act usedOf
+  unfolding outcome handed first tests lineTests timeOf news arrives lacksNeed isTooLong number act droppedOn usedOf
   overrun-lost h l =
       let z = refuses-none (ltb n (f .heard)) (deaf (f .phase)) (rw e at h) in
       rw (z .0, z .1, l)
@@ -362,17 +363,17 @@ module _ (f : Feed) (n r : ℕ) (e : r ≡ refusal f n) (g : Given) (x : Tables)
 -- a connect
 module _ (f : Feed) (l : Link) (n : ℕ) (g : Given) (x : Tables) where
   pub link-early : n < f .heard → g ≡ answered 10 f → record { given = g; tables = x } ≡ outcome (record { feed = f; tables = x }) (Connect l n)
-  unfolding outcome handed first tests lineTests timeOf number act usedOf
+  unfolding outcome handed first tests lineTests timeOf number act droppedOn usedOf
   link-early a h = rw (lt-ltb n (f .heard) a, h)
 
   module _ (b : Bool) (a : f .heard ≤ n) (e : b ≡ lacksNeed f (Linked l)) where
     pub link-refused : b ≡ true → g ≡ answered 20 f → record { given = g; tables = x } ≡ outcome (record { feed = f; tables = x }) (Connect l n)
-    unfolding outcome handed first tests lineTests timeOf news arrives number act usedOf
+    unfolding outcome handed first tests lineTests timeOf news arrives number act droppedOn usedOf
     link-refused h k = rw (le-ltb n (f .heard) a, ← e, h, k)
 
     pub link-taken : (y : Feed) (c : Bool) → b ≡ false → y ≡ inPhase WaitKey f → c ≡ isFresh l
         → g ≡ answered 0 (freshIs c (heardAt n (nextIs 1 y))) → record { given = g; tables = x } ≡ outcome (record { feed = f; tables = x }) (Connect l n)
-    unfolding outcome handed first tests lineTests tableTests timeOf news onMessage arrives isTooLong isMore number act taken usedOf offered
+    unfolding outcome handed first tests lineTests tableTests timeOf news onMessage arrives isTooLong isMore number act droppedOn newsDrops taken usedOf offered
     link-taken y c h k d p = rw (le-ltb n (f .heard) a, ← e, h, p, d, k)
 
 pub ruleset rows = (

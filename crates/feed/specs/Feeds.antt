@@ -59,9 +59,9 @@ newFeed l = record { phase = Idle; next = 1; internal = 0; heard = 0; limit = l;
 unfoldable pub newGiven : ℕ → Given
 newGiven l =
     first
-    ((not (listedLimit l), record { answer = 19; used = 0; feed = newFeed 1000 })
+    ((not (listedLimit l), record { answer = 19; used = 0; feed = newFeed 1000; dropped = 0 })
     ∷ [])
-    (record { answer = 0; used = 0; feed = newFeed l })
+    (record { answer = 0; used = 0; feed = newFeed l; dropped = 0 })
 
 -- "Green (1) in Live, Filling (2) in WaitKey, WaitLogon or Refreshing .. otherwise Stale (0)"
 abbrev pub colour : Phase → Badge

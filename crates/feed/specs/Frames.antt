@@ -18,9 +18,10 @@ framedOf r x = record { frame = r; tables = x }
 
 -- before the first unit: "Allowing 0 answers 0 and changes nothing"
 abbrev pub opened : Feed → Frame
-opened f = record { answer = 0; accepted = 0; used = 0; feed = f }
+opened f = record { answer = 0; accepted = 0; used = 0; feed = f; dropped = 0 }
 
--- a single arrival at the bytes that the ones before have left: "how many it accepted, the bytes used and the last answer"
+-- a single arrival at the bytes that the ones before have left: "how many it accepted, the bytes used and the last answer"; document 02, request 6:
+-- and the rows dropped by all of them
 unfoldable pub onward : List ℕ → ℕ → Framed → Framed
 onward bytes time x =
     let o : Outcome = outcome (stateOf (x .frame .feed) (x .tables)) (Arrive (drop (x .frame .used) bytes) time) in
@@ -30,6 +31,7 @@ onward bytes time x =
         accepted = cond (accepted (o .given .answer)) (x .frame .accepted + 1) (x .frame .accepted);
         used = x .frame .used + o .given .used;
         feed = o .given .feed;
+        dropped = x .frame .dropped + o .given .dropped;
       };
       tables = o .tables;
     }

@@ -3,7 +3,7 @@ use Prim.Native.Nat.{ℕ, _+_}
 use mathlib.Core.Bool.{Bool, true, false, cond, _&&_}
 use mathlib.Core.List.{List}
 use lib.Dec.{leb}
-use Rattle.books.specs.Table.{booksAfter}
+use Rattle.books.specs.Table.{booksAfter, dropsIn}
 use Rattle.strips.specs.Table.{stripsAfter}
 use Rattle.feed.specs.Messages.{kind, market, statusOf, logonStatus, lastInternal}
 use Rattle.feed.specs.Feeds.{is, inPhase, nextIs, internalIs, heardAt, wholeIs, freshIs}
@@ -123,6 +123,28 @@ accepted n = leb n 2
 unfoldable pub usedOf : ℕ → Event → ℕ
 usedOf n e = cond (accepted n) (offered e) 0
 
+-- document 02, request 6: how many rows are dropped by what is taken: a book message says how many, and nothing else drops any
+unfoldable pub drops : Kind → ℕ → List ℕ → Tables → ℕ
+drops (Session s) time m x = 0
+drops (Market Book) time m x = dropsIn time m (x .books)
+drops (Market Strip) time m x = 0
+drops (Market Other) time m x = 0
+
+unfoldable pub newsDrops : ℕ → News → Tables → ℕ
+newsDrops time (Linked link) x = 0
+newsDrops time More x = 0
+newsDrops time Heartbeat x = 0
+newsDrops time TooLong x = 0
+newsDrops time (Message seq internal m) x = drops (kind m) time m x
+
+-- "and 0 for a refused message", and for one that was Seen
+unfoldable pub droppedOn : Answer → ℕ → News → Tables → ℕ
+droppedOn (Keep n) time x t = 0
+droppedOn (Lose n) time x t = 0
+droppedOn (Spoil n) time x t = 0
+droppedOn (Skip n) time x t = 0
+droppedOn (Take n) time x t = newsDrops time x t
+
 -- all that a call hands back, and every word of what was lent
 pub record Outcome : Type 0 where
   pub given : Given
@@ -142,7 +164,12 @@ outOf g x = record { given = g; tables = x }
 -- what an answer to a call comes to
 unfoldable pub handed : Answer → State → Event → Outcome
 handed a s e = record {
-  given = record { answer = number a; used = usedOf (number a) e; feed = act a (timeOf e) (news e) s .feed };
+  given = record {
+    answer = number a;
+    used = usedOf (number a) e;
+    feed = act a (timeOf e) (news e) s .feed;
+    dropped = droppedOn a (timeOf e) (news e) (s .tables);
+  };
   tables = act a (timeOf e) (news e) s .tables;
 }
 

@@ -62,7 +62,11 @@ impl Feed {
                 self.done(session, message, time).kept(0)
             }
             Kind::Market(datum) => match datum {
-                Datum::Book => self.market(books::take(books, message, time), internal, time),
+                Datum::Book => {
+                    let told = books::take(books, message, time);
+                    self.market(told.answer, internal, time)
+                        .dropping(told.dropped)
+                }
                 Datum::Strip => self.market(strips::take(strips, message), internal, time),
                 Datum::Other => self.numbered(internal, time).kept(2),
             },

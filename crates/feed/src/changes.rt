@@ -11,7 +11,7 @@ ghost use Prim.Native.Nat.{_≤_};
 ghost use Rattle.feed.specs.Feeds.{inPhase, internalIs, heardAt, wholeIs};
 ghost use Rattle.feed.specs.Answers.{lastSeqNum};
 ghost use Rattle.feed.specs.Steps.{enterLive, advanced as advancedAt, counted, accepted};
-ghost use Rattle.feed.specs.Code.Judging.{answered, usedIs};
+ghost use Rattle.feed.specs.Code.Judging.{answered, usedIs, droppedIs};
 
 // The feed with one thing changed, and the feed with an answer.
 impl Feed {
@@ -30,7 +30,7 @@ impl Feed {
         }
     }
 
-    // An answer with no bytes used, and this feed after it.
+    // An answer with no bytes used and no row dropped, and this feed after it.
     pub(crate) fn kept(self, answer: u64) -> Given
         ensures { λ r. ⌜ r ≡ answered answer self ⌝ }
     {
@@ -38,6 +38,7 @@ impl Feed {
             answer,
             used: 0,
             feed: self,
+            dropped: 0,
         }
     }
 
@@ -120,8 +121,17 @@ impl Feed {
     }
 }
 
-// What a call hands back, with the bytes it used.
+// What a call hands back, with the bytes it used and the rows it dropped.
 impl Given {
+    // The rows dropped.
+    pub(crate) fn dropping(self, n: u64) -> Given
+        ensures { λ r. ⌜ r ≡ droppedIs n self ⌝ }
+    {
+        let mut g = self;
+        g.dropped = n;
+        g
+    }
+
     // The bytes used, where n are offered: all of them after answers 0, 1 and 2, and none after another.
     pub(crate) fn using(self, n: usize) -> Given
         ensures { λ r. ⌜ r ≡ usedIs (cond (accepted (self .answer)) n 0) self ⌝ }

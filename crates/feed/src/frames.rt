@@ -12,7 +12,7 @@ ghost use Rattle.feed.specs.Contracts.{FrameSays};
 impl Frame {
     // A single arrival at the bytes that the ones before have left.
     fn onward(self, books: &mut [u64], strips: &mut [u64], bytes: &[u8], time: u64) -> Frame
-        requires { ⌜ (self .used ≤ length (now bytes)) × (self .accepted < 18446744073709551615) ⌝ }
+        requires { ⌜ (self .used ≤ length (now bytes)) × (self .accepted < 18446744073709551615) × (self .dropped ≤ self .used) ⌝ }
         ensures { λ r. ⌜ framedOf r (lent (now (books .exit)) (now (strips .exit))) ≡ onwardIn (now (bytes .entry)) time (framedOf self (lent (now (books .entry)) (now (strips .entry)))) ⌝ }
     {
         let feed = self.feed;
@@ -24,6 +24,7 @@ impl Frame {
             accepted: self.accepted,
             used: used + given.used,
             feed,
+            dropped: self.dropped + given.dropped,
         };
         if given.answer <= 2 {
             frame.accepted = self.accepted + 1;
@@ -50,6 +51,7 @@ impl Feed {
             accepted: 0,
             used: 0,
             feed: self,
+            dropped: 0,
         };
         while frame.accepted < allowed {
             frame = frame.onward(books, strips, bytes, time);

@@ -48,19 +48,21 @@ pub enum Answer {
     Take(u64),
 }
 
-// What a call hands back: document 01's answer number, the bytes used, and the feed after it.
+// What a call hands back: document 01's answer number, the bytes used, the feed after it, and how many rows were dropped.
 pub struct Given {
     pub answer: u64,
     pub used: usize,
     pub feed: Feed,
+    pub dropped: u64,
 }
 
-// What a frame's units come to: the last answer, how many were accepted, the bytes that they used, and the feed after them.
+// What a frame's units come to: the last answer, how many were accepted, the bytes that they used, the feed after them, and the rows dropped by all.
 pub struct Frame {
     pub answer: u64,
     pub accepted: u64,
     pub used: usize,
     pub feed: Feed,
+    pub dropped: u64,
 }
 
 // A connect is fresh or resuming.

@@ -14,9 +14,9 @@ use Rattle.ground.specs.Choice.{oneOf, pick, all}
 use Rattle.wire.specs.Number.{field, biased}
 use Rattle.ground.proofs.Bools.{cond-same, split}
 use Rattle.slots.specs.Layout.{landed, misfit, orAsItWas}
-use Rattle.ladder.specs.Message.{depth, entrySize, entryOf, entryAt, entriesFrom, hasEntries, entries, listedEntry, listedSide, listedRank}
+use Rattle.ladder.specs.Message.{depth, entrySize, entryOf, entryAt, entriesFrom, noEntries, hasEntries, entries, listedEntry, listedSide, listedRank}
 use Rattle.ladder.specs.Sides.{noRow, newRows, changeRows, deleteRows, fits, rowsAfter, fellFrom, wasDropped, onSide}
-use Rattle.ladder.specs.Walk.{Book, emptyBook, withBids, withOffers, onBook, walk, fellOff, dropped, droppedBy, bookAfter}
+use Rattle.ladder.specs.Walk.{Book, emptyBook, withBids, withOffers, onBook, walk, fellOff, dropped, droppedBy, bookAfter, messageDrops}
 use Rattle.ladder.specs.Code.Arrays.{Side, live, Padded, sideAt, asBook, Sides, emptyRows, emptyCounts, wayOf, fitsAt, appliedTo, refused}
 use Rattle.ladder.specs.Code.Loading.{settled}
 use Rattle.ladder.specs.Words.{bookWidth, noRows, wordsOf}
@@ -403,3 +403,25 @@ after-keeps P time m b b′ e walked empty = go (hasEntries m) e
 -- and so does a message
 pub book-few : (time : ℕ) (m : List ℕ) (b b′ : Book) → Few b → bookAfter time m b ≡ some b′ → Few b′
 book-few time m b b′ h e = after-keeps Few time m b b′ e (λ w. walk-few time (entries m) b b′ w h) (omega arith, omega arith)
+
+-- entries drop at most a row each, and a message at most as many as it has entries
+dropped-few : (time : ℕ) (es : List Entry) (b : Book) → dropped time es b ≤ length es
+unfolding dropped
+dropped-few time [] b = omega arith
+dropped-few time (e ∷ es) b = go (wasDropped (fellOff e b)) (dropped-few time es (orAsItWas (onBook time e b) b))
+  where
+    go : (x : Bool) → dropped time es (orAsItWas (onBook time e b) b) ≤ length es → cond x 1 0 + dropped time es (orAsItWas (onBook time e b) b) ≤ suc (length es)
+    go true h = omega arith
+    go false h = omega arith
+
+count-entries : (n at : ℕ) (s : List ℕ) → length (entriesFrom n at s) ≡ n
+unfolding entriesFrom
+count-entries zero at s = refl
+count-entries (suc n) at s = ap suc (count-entries n (at + entrySize) s)
+
+pub drops-few : (time : ℕ) (m : List ℕ) (b : Book) → messageDrops time m b ≤ noEntries m
+drops-few time m b = go (hasEntries m)
+  where
+    go : (x : Bool) → cond x (dropped time (entries m) b) 0 ≤ noEntries m
+    go true = omega (arith, dropped-few time (entries m) b, count-entries (noEntries m) 0 (drop 12 m))
+    go false = omega arith

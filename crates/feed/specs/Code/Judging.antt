@@ -24,13 +24,16 @@ refusal f time = cond (ltb time (f .heard)) 10 (cond (deaf (f .phase)) 11 0)
 abbrev pub clearedIf : Bool → Tables → Tables
 clearedIf b x = cond b (clearedTables x) x
 
--- an answer with no bytes used, and the feed after it
+-- an answer with no bytes used and no row dropped, and the feed after it
 abbrev pub answered : ℕ → Feed → Given
-answered n f = record { answer = n; used = 0; feed = f }
+answered n f = record { answer = n; used = 0; feed = f; dropped = 0 }
 
--- the same answer and feed, with other bytes used
+-- the same with other bytes used, and with other rows dropped
 abbrev pub usedIs : ℕ → Given → Given
-usedIs n g = record { answer = g .answer; used = n; feed = g .feed }
+usedIs n g = record { answer = g .answer; used = n; feed = g .feed; dropped = g .dropped }
+
+abbrev pub droppedIs : ℕ → Given → Given
+droppedIs n g = record { answer = g .answer; used = g .used; feed = g .feed; dropped = n }
 
 -- what a call comes to where the feed by itself leaves the answer to the tables
 unfoldable pub onTables : State → Event → Outcome
