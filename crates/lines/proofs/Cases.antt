@@ -66,7 +66,7 @@ waits-is l h s g r a p e = rw (e, put-behind (l .held) h s (omega arith) g p)
 -- a unit has been through the feed
 module _ (g : Given) (n w k : ℕ) (h : List ℕ) where
   pub settle-taken : (h′ : List ℕ) (u v : ℕ) → g .answer ≤ 2 → h′ ≡ movedUp n w h → u ≡ n - w → v ≡ w - n
-      → holding (record { said = true; answer = g .answer; accepted = 1; used = u; line = record { feed = g .feed; held = v; dropping = false } }) h′ ≡ settled g n w k h
+      → holding (record { said = true; answer = g .answer; accepted = 1; used = u; line = record { feed = g .feed; held = v; dropping = false }; dropped = g .dropped }) h′ ≡ settled g n w k h
   unfolding settled
   settle-taken h′ u v a p q r = rw (le-leb (g .answer) 2 a, p, q, r)
 

@@ -42,7 +42,7 @@ laid s hold = s ++ drop (length s) hold
 
 -- no answer, and so many bytes of the scrap used
 abbrev pub silent : ℕ → Line → Heard
-silent used l = record { said = false; answer = 0; accepted = 0; used = used; line = l }
+silent used l = record { said = false; answer = 0; accepted = 0; used = used; line = l; dropped = 0 }
 
 -- "the rest waits"
 abbrev pub waits : Line → List ℕ → List ℕ → Holding
@@ -51,11 +51,19 @@ waits l hold scrap =
 
 -- a refusal: nothing waits, and "what follows a refusal is dropped", all that the scrap has left included
 abbrev pub refused : Given → ℕ → Heard
-refused g left = record { said = true; answer = g .answer; accepted = 0; used = left; line = record { feed = g .feed; held = 0; dropping = true } }
+refused g left = record { said = true; answer = g .answer; accepted = 0; used = left; line = record { feed = g .feed; held = 0; dropping = true }; dropped = 0 }
 
--- a unit of n bytes that was accepted, where `held` bytes had waited: what it took of the scrap, and what still waits
+-- a unit of n bytes that was accepted, where `held` bytes had waited: what it took of the scrap, what still waits, and by document 02, request 6, the
+-- rows that it dropped
 abbrev pub acceptedUnit : Given → ℕ → ℕ → Heard
-acceptedUnit g n held = record { said = true; answer = g .answer; accepted = 1; used = n - held; line = record { feed = g .feed; held = held - n; dropping = false } }
+acceptedUnit g n held = record {
+  said = true;
+  answer = g .answer;
+  accepted = 1;
+  used = n - held;
+  line = record { feed = g .feed; held = held - n; dropping = false };
+  dropped = g .dropped;
+}
 
 -- a unit of which a part has waited is put together in the buffer; one that lies whole in the scrap, or has waited whole, is read where it lies
 unfoldable pub gathered : ℕ → ℕ → List ℕ → List ℕ → List ℕ
@@ -87,7 +95,7 @@ once l x hold scrap time =
     cond (l .dropping) (hearing (silent (length scrap) l) x hold)
     (looked (look (length hold) (l .held) (behind (l .held) hold scrap)) l x hold scrap time)
 
--- once more, at the bytes of the scrap that are left
+-- once more, at the bytes of the scrap that are left; the rows dropped are those of all its units
 unfoldable pub onward : List ℕ → ℕ → Hearing → Hearing
 onward scrap time y =
     let z : Hearing = once (y .heard .line) (y .tables) (y .hold) (drop (y .heard .used) scrap) time in
@@ -98,6 +106,7 @@ onward scrap time y =
       accepted = y .heard .accepted + z .heard .accepted;
       used = y .heard .used + z .heard .used;
       line = z .heard .line;
+      dropped = y .heard .dropped + z .heard .dropped;
     })
     (z .tables)
     (z .hold)

@@ -28,11 +28,13 @@ pub struct Linked {
     pub line: Line,
 }
 
-// What a scrap comes to: whether there is an answer, the last one, how many units were accepted, the bytes of the scrap used, and the line after it.
+// What a scrap comes to: whether there is an answer, the last one, how many units were accepted, the bytes of the scrap used, the line after it, and the
+// rows dropped by all its units.
 pub struct Heard {
     pub said: bool,
     pub answer: u64,
     pub accepted: u64,
     pub used: usize,
     pub line: Line,
+    pub dropped: u64,
 }

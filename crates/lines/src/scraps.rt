@@ -11,7 +11,7 @@ use super::looks::look_at;
 use feed::Given;
 use feed::Link;
 ghost use mathlib.Core.Path.{_≡_};
-ghost use Prim.Native.Nat.{_+_, _-_, _≤_, _<_};
+ghost use Prim.Native.Nat.{_+_, _-_, _≤_, _<_, min};
 ghost use lib.ListN.{length};
 ghost use Rattle.feed.specs.Steps.{lent};
 ghost use Rattle.lines.specs.Scraps.{holding, hearing, silent as silentOf, waits as waitsOf, refused as refusedOf, settled, looked, once as onceOf, onward as onwardOf, goesOn};
@@ -39,6 +39,7 @@ fn refused(given: Given, left: usize) -> Heard
             held: 0,
             dropping: true,
         },
+        dropped: 0,
     }
 }
 
@@ -60,6 +61,7 @@ fn settle(given: Given, n: usize, held: usize, left: usize, hold: &mut [u8]) -> 
                 held: less(held, n),
                 dropping: false,
             },
+            dropped: given.dropped,
         };
     }
     refused(given, left)
@@ -77,6 +79,7 @@ impl Line {
             accepted: 0,
             used,
             line: self,
+            dropped: 0,
         }
     }
 
@@ -226,6 +229,7 @@ impl Line {
             accepted: 0,
             used: 0,
             line: self,
+            dropped: 0,
         };
         while heard.accepted < allowed {
             heard = heard.onward(books, strips, hold, scrap, time);
@@ -249,7 +253,7 @@ impl Heard {
         scrap: &[u8],
         time: u64,
     ) -> Heard
-        requires { ⌜ (self .used ≤ length (now scrap)) × (self .accepted < 18446744073709551615) ⌝ }
+        requires { ⌜ (self .used ≤ length (now scrap)) × (self .accepted < 18446744073709551615) × (self .dropped + min (self .line .held) (length (now hold)) ≤ length (now hold) + self .used) ⌝ }
         ensures { λ r. ⌜ hearing r (lent (now (books .exit)) (now (strips .exit))) (now (hold .exit)) ≡ onwardOf (now (scrap .entry)) time (hearing self (lent (now (books .entry)) (now (strips .entry))) (now (hold .entry))) ⌝ }
     {
         let line = self.line;
@@ -262,6 +266,7 @@ impl Heard {
             accepted: self.accepted + one.accepted,
             used: used + one.used,
             line,
+            dropped: self.dropped + one.dropped,
         }
     }
 

@@ -1,6 +1,6 @@
 use Rattle.feed.specs.Steps.{lent}
 use borrow.Author.Needs.{needs}
-use Rattle.lines.proofs.Courses.{courses, used-adds, accepted-adds}
+use Rattle.lines.proofs.Courses.{courses, used-adds, accepted-adds, dropped-adds}
 use Rattle.lines.proofs.Heard.onward.Statement.{statement}
 use Rattle.lines.proofs.Heard.onward.Tie as tie
 
@@ -28,6 +28,11 @@ onward-spec =
     (λ c κs. search courses)
     add-t21
     add-t18
+    (λ c.
+    let once = c .before .before .before .before .before .before .before .before .before .before .before .before in
+    let entry = once .before .before .before .before .before .before .before .before .before .before in
+    dropped-adds (entry .args .self) (lent (entry .args .books .now) (entry .args .strips .now)) _ (entry .args .hold .now) _ (entry .args .scrap .now) _ (once .once .result)
+    (once .once .ensures) (entry .pre .0) (entry .pre .2) (search needs) (search needs))
     (λ c. search courses)
     (λ c. search courses)
     (λ c. search courses)
