@@ -68,7 +68,7 @@ pub as-plain : (f : Feed) (p w r : ℕ) → p ≡ phaseNo (f .phase) → w ≡ b
     → _≡_ {A = MmdhFeed} (record { phase = p; next = f .next; internal = f .internal; heard = f .heard; limit = f .limit; whole = w; fresh = r }) (plainFeed f)
 as-plain f p w r a b c = rw (a, b, c)
 
-pub as-given : (g : Given) (f : MmdhFeed) → f ≡ plainFeed (g .feed) → _≡_ {A = MmdhGiven} (record { answer = g .answer; used = g .used; feed = f }) (plainGiven g)
+pub as-given : (g : Given) (f : MmdhFeed) → f ≡ plainFeed (g .feed) → _≡_ {A = MmdhGiven} (record { answer = g .answer; used = g .used; feed = f; dropped = g .dropped }) (plainGiven g)
 as-given g f e = rw e
 
 pub new-plain : (limit : ℕ) (g : Given) (r : MmdhGiven) → g ≡ newGiven limit → r ≡ plainGiven g → r ≡ plainGiven (newGiven limit)
@@ -84,11 +84,11 @@ pub arrive-plain : (c : MmdhFeed) (f : Feed) (x y : Tables) (e : Event) (g : Giv
 arrive-plain c f x y e g r a q h = rw (h, ← a) (ap plainOutcome q)
 
 pub as-frame : (x : Frame) (f : MmdhFeed) → f ≡ plainFeed (x .feed)
-    → _≡_ {A = MmdhFrame} (record { answer = x .answer; accepted = x .accepted; used = x .used; feed = f }) (plainFrame x)
+    → _≡_ {A = MmdhFrame} (record { answer = x .answer; accepted = x .accepted; used = x .used; feed = f; dropped = x .dropped }) (plainFrame x)
 as-frame x f e = rw e
 
 pub frame-none : (c : MmdhFeed) (x : Tables) (bytes : List ℕ) (allowed time : ℕ) → allowed ≡ 0
-    → plainFramedOf (record { answer = 0; accepted = 0; used = 0; feed = c }) x ≡ framesBack c x bytes allowed time
+    → plainFramedOf (record { answer = 0; accepted = 0; used = 0; feed = c; dropped = 0 }) x ≡ framesBack c x bytes allowed time
 unfolding framesBack
 frame-none c x bytes allowed time e = rw (eq-eqb allowed 0 e)
 
@@ -106,7 +106,7 @@ pub as-plain-line : (l : Line) (f : MmdhFeed) (d : ℕ) → f ≡ plainFeed (l .
 as-plain-line l f d a b = rw (a, b)
 
 pub as-heard : (x : Heard) (l : MmdhLine) (s : ℕ) → l ≡ plainLine (x .line) → s ≡ bit (x .said)
-    → _≡_ {A = MmdhHeard} (record { said = s; answer = x .answer; accepted = x .accepted; used = x .used; line = l }) (plainHeard x)
+    → _≡_ {A = MmdhHeard} (record { said = s; answer = x .answer; accepted = x .accepted; used = x .used; line = l; dropped = x .dropped }) (plainHeard x)
 as-heard x l s a b = rw (a, b)
 
 module _ (c : MmdhLine) (l : Line) (hold : List ℕ) (resuming time : ℕ) (link : Link) (r : Linked) (a : l ≡ lineOf c) (b : link ≡ linkOf resuming)
@@ -126,12 +126,12 @@ module _ (c : MmdhLine) (l : Line) (hold : List ℕ) (resuming time : ℕ) (link
   link-refused z = rw (← same, ne-eqb (r .answer) 0 z)
 
 module _ (c : MmdhLine) (x : Tables) (hold scrap : List ℕ) (allowed time : ℕ) where
-  pub scrap-none : allowed ≡ 0 → plainHearing (record { said = 0; answer = 0; accepted = 0; used = 0; line = c }) x hold ≡ hearsBack c x hold scrap allowed time
+  pub scrap-none : allowed ≡ 0 → plainHearing (record { said = 0; answer = 0; accepted = 0; used = 0; line = c; dropped = 0 }) x hold ≡ hearsBack c x hold scrap allowed time
   unfolding hearsBack first
   scrap-none z = rw (eq-eqb allowed 0 z)
 
   module _ (z : allowed ≡ 0 → ⊥) (d : Bool) (e : d ≡ yes (c .dropping)) where
-    pub scrap-dropped : d ≡ true → plainHearing (record { said = 0; answer = 0; accepted = 0; used = length scrap; line = c }) x hold ≡ hearsBack c x hold scrap allowed time
+    pub scrap-dropped : d ≡ true → plainHearing (record { said = 0; answer = 0; accepted = 0; used = length scrap; line = c; dropped = 0 }) x hold ≡ hearsBack c x hold scrap allowed time
     unfolding hearsBack first
     scrap-dropped h = rw (ne-eqb allowed 0 z, ← e, h)
 

@@ -35,7 +35,7 @@ handsBack f x c = plainOutcome (outcome (stateOf (feedOf f) x) (eventOf c))
 
 -- mmdh_arrive_frame before its first unit: the seven numbers as they were handed in, whatever they are ..
 abbrev pub plainOpened : MmdhFeed → MmdhFrame
-plainOpened f = record { answer = 0; accepted = 0; used = 0; feed = f }
+plainOpened f = record { answer = 0; accepted = 0; used = 0; feed = f; dropped = 0 }
 
 -- .. which is all of it where 0 units are allowed
 unfoldable pub framesBack : MmdhFeed → Tables → List ℕ → ℕ → ℕ → PlainFramed
@@ -50,7 +50,7 @@ linksBack l hold g = linkedBack l (links g (lineOf l) hold)
 
 -- mmdh_line_scrap where nothing is looked at: the line as it was handed in, whatever its numbers
 abbrev pub plainSilent : ℕ → MmdhLine → MmdhHeard
-plainSilent used l = record { said = 0; answer = 0; accepted = 0; used = used; line = l }
+plainSilent used l = record { said = 0; answer = 0; accepted = 0; used = used; line = l; dropped = 0 }
 
 -- where 0 units are allowed nothing is used, and a line that drops uses all of the scrap up
 unfoldable pub hearsBack : MmdhLine → Tables → List ℕ → List ℕ → ℕ → ℕ → PlainHearing

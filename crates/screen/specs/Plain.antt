@@ -62,7 +62,7 @@ plainFeed f = record {
 }
 
 abbrev pub plainGiven : Given → MmdhGiven
-plainGiven g = record { answer = g .answer; used = g .used; feed = plainFeed (g .feed) }
+plainGiven g = record { answer = g .answer; used = g .used; feed = plainFeed (g .feed); dropped = g .dropped }
 
 -- what a call hands back, with every word of every table after it
 pub record PlainOut : Type 0 where
@@ -77,7 +77,7 @@ plainOutcome o = record { given = plainGiven (o .given); tables = o .tables }
 
 -- and a frame
 abbrev pub plainFrame : Frame → MmdhFrame
-plainFrame x = record { answer = x .answer; accepted = x .accepted; used = x .used; feed = plainFeed (x .feed) }
+plainFrame x = record { answer = x .answer; accepted = x .accepted; used = x .used; feed = plainFeed (x .feed); dropped = x .dropped }
 
 pub record PlainFramed : Type 0 where
   pub frame : MmdhFrame
@@ -97,7 +97,7 @@ abbrev pub plainLine : Line → MmdhLine
 plainLine l = record { feed = plainFeed (l .feed); held = l .held; dropping = bit (l .dropping) }
 
 abbrev pub plainHeard : Heard → MmdhHeard
-plainHeard r = record { said = bit (r .said); answer = r .answer; accepted = r .accepted; used = r .used; line = plainLine (r .line) }
+plainHeard r = record { said = bit (r .said); answer = r .answer; accepted = r .accepted; used = r .used; line = plainLine (r .line); dropped = r .dropped }
 
 pub record PlainHearing : Type 0 where
   pub heard : MmdhHeard
@@ -133,4 +133,4 @@ plainStrip s = record {
 
 -- the request of document 02 that last changed the shape of a call or struct that was there before
 abbrev pub version : ℕ
-version = 2
+version = 6

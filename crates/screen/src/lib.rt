@@ -25,21 +25,23 @@ pub struct MmdhFeed {
     pub fresh: u64,
 }
 
-// What a call hands back: the answer, the bytes used, and the feed after it.
+// What a call hands back: the answer, the bytes used, the feed after it, and how many rows were dropped.
 #[repr(C)]
 pub struct MmdhGiven {
     pub answer: u64,
     pub used: u64,
     pub feed: MmdhFeed,
+    pub dropped: u64,
 }
 
-// What a frame hands back: the last answer, how many units were accepted, the bytes that they used, and the feed after them.
+// What a frame hands back: the last answer, how many units were accepted, the bytes that they used, the feed after them, and the rows dropped by all.
 #[repr(C)]
 pub struct MmdhFrame {
     pub answer: u64,
     pub accepted: u64,
     pub used: u64,
     pub feed: MmdhFeed,
+    pub dropped: u64,
 }
 
 // A line as numbers: its feed, how many bytes wait at the front of its holding buffer, and whether it drops as 0 (no) or anything else (yes).
@@ -57,7 +59,8 @@ pub struct MmdhLinked {
     pub line: MmdhLine,
 }
 
-// What a scrap hands back: whether there is an answer, the last one, how many units were accepted, the bytes of the scrap used, and the line after it.
+// What a scrap hands back: whether there is an answer, the last one, how many units were accepted, the bytes of the scrap used, the line after it, and
+// the rows dropped by all its units.
 #[repr(C)]
 pub struct MmdhHeard {
     pub said: u64,
@@ -65,6 +68,7 @@ pub struct MmdhHeard {
     pub accepted: u64,
     pub used: u64,
     pub line: MmdhLine,
+    pub dropped: u64,
 }
 
 // What reading a row gives.
@@ -101,7 +105,7 @@ pub struct MmdhStrip {
 }
 
 // The request that last changed the shape of a call or struct that was there before.
-const VERSION: u64 = 2;
+const VERSION: u64 = 6;
 
 // A number as yes or no.
 fn is_yes(n: u64) -> bool
@@ -180,6 +184,7 @@ fn plain_given(g: Given) -> MmdhGiven
         answer: g.answer,
         used: g.used as u64,
         feed,
+        dropped: g.dropped,
     }
 }
 
@@ -194,6 +199,7 @@ fn plain_frame(x: Frame) -> MmdhFrame
         accepted: x.accepted,
         used: x.used as u64,
         feed,
+        dropped: x.dropped,
     }
 }
 
@@ -238,6 +244,7 @@ fn plain_heard(x: Heard) -> MmdhHeard
         accepted: x.accepted,
         used: x.used as u64,
         line,
+        dropped: x.dropped,
     }
 }
 
@@ -289,6 +296,7 @@ pub extern "C" fn mmdh_arrive_frame(
             accepted: 0,
             used: 0,
             feed,
+            dropped: 0,
         };
     }
     plain_frame(feed_of(feed).arrive_frame(books, strips, bytes, allowed, time))
@@ -352,6 +360,7 @@ pub extern "C" fn mmdh_line_scrap(
             accepted: 0,
             used: 0,
             line,
+            dropped: 0,
         };
     }
     if is_yes(line.dropping) {
@@ -361,6 +370,7 @@ pub extern "C" fn mmdh_line_scrap(
             accepted: 0,
             used: scrap.len() as u64,
             line,
+            dropped: 0,
         };
     }
     plain_heard(line_of(line).scrap(books, strips, hold, scrap, allowed, time))
