@@ -157,7 +157,7 @@ green-of limit s h time l i =
 
 -- a new feed has a limit that is listed, and all else as a new feed has it
 given : ℕ → Bool → Given
-given limit b = cond (not b) (record { answer = 19; used = 0; feed = newFeed 1000 }) (record { answer = 0; used = 0; feed = newFeed limit })
+given limit b = cond (not b) (record { answer = 19; used = 0; feed = newFeed 1000; dropped = 0 }) (record { answer = 0; used = 0; feed = newFeed limit; dropped = 0 })
 
 new-given : (limit : ℕ) → newGiven limit ≡ given limit (listedLimit limit)
 unfolding newGiven first given

@@ -99,7 +99,7 @@ module _ (S : List (Event × ℕ)) (s : List ℕ) (t : ℕ) (y : Hearing) (d : y
       let k : take (w + length left) (laid come (y .hold)) ≡ come = take-at come (drop (length come) (y .hold)) (w + length left) (behind-length w (y .hold) left (f .0)) in
       let b : take (w + length left) (laid come (y .hold)) ++ drop (y .heard .used + length left) s ≡ come = rw (k, none-after) (append-nil come) in
       ap (λ (z : Hearing). flow S s (hearing
-      (record { said = z .heard .said; answer = z .heard .answer; accepted = y .heard .accepted + z .heard .accepted; used = y .heard .used + z .heard .used; line = z .heard .line })
+      (record { said = z .heard .said; answer = z .heard .answer; accepted = y .heard .accepted + z .heard .accepted; used = y .heard .used + z .heard .used; line = z .heard .line; dropped = y .heard .dropped + z .heard .dropped })
       (z .tables) (z .hold))) o
       ∙ (λ i. record { said = S; state = stateOn (linedIn y); waiting = b i; dropping = sym d i })
 

@@ -67,7 +67,7 @@ pub newListed : D.NewListed
 unfolding newGiven oneOf all
 newListed limit = go (listedLimit limit)
   where
-    go : (b : Bool) → T (oneOf (first {A = Given} ((not b, record { answer = 19; used = 0; feed = newFeed 1000 }) ∷ []) (record { answer = 0; used = 0; feed = newFeed limit }) .answer) (19 ∷ 0 ∷ []))
+    go : (b : Bool) → T (oneOf (first {A = Given} ((not b, record { answer = 19; used = 0; feed = newFeed 1000; dropped = 0 }) ∷ []) (record { answer = 0; used = 0; feed = newFeed limit; dropped = 0 }) .answer) (19 ∷ 0 ∷ []))
     go true = unfold first in tt
     go false = unfold first in tt
 

@@ -1,5 +1,6 @@
 -- Whole frames, proved: each is named as its statement in specs/Frames, with a small letter. Assumes nothing.
 use Prim.Native.Nat.{ℕ, zero, suc, _+_, _<_}
+use native.Mathlib.Nat.{add-assoc}
 use native.Mathlib.Omega.{arith}
 use mathlib.Core.Path.{_≡_, refl, sym, ap, _∙_, subst}
 use mathlib.Core.Bool.{Bool, true, false, cond, not}
@@ -23,7 +24,7 @@ use Rattle.promises.specs.Ledger.{upTo, lastOf}
 use Rattle.promises.specs.NoHole.{kept}
 use Rattle.promises.specs.Demands.{Bytes, handsBytes, connects}
 use Rattle.promises.specs.Frames as F
-use Rattle.promises.specs.Frames.{singles, answersIn, acceptedIn, usedIn, stateIn, restOf, joined, refusedAfter, Act, One, AtOnce, afterAct, runActs, eventsOf, written, actsBytes}
+use Rattle.promises.specs.Frames.{singles, answersIn, acceptedIn, usedIn, droppedIn, stateIn, restOf, joined, refusedAfter, Act, One, AtOnce, afterAct, runActs, eventsOf, written, actsBytes}
 use Rattle.promises.proofs.Demands as D
 use Rattle.promises.proofs.Soundness.{bytes-two}
 use Rattle.promises.proofs.Morning.{run-append, lostStaysDark}
@@ -59,6 +60,7 @@ toldFrom x s es =
       accepted = x .frame .accepted + acceptedIn (trace s es);
       used = x .frame .used + usedIn (trace s es);
       feed = run s es .feed;
+      dropped = x .frame .dropped + droppedIn s es;
     })
     (run s es .tables)
 
@@ -67,14 +69,15 @@ module _ (bytes : List ℕ) (time : ℕ) where
   next x = Arrive (drop (x .frame .used) bytes) time
 
   told-none : (x : Framed) → x ≡ toldFrom x (stateIn x) []
-  unfolding trace run answersIn acceptedIn usedIn lastOf
+  unfolding trace run answersIn acceptedIn usedIn droppedIn lastOf
   told-none x =
       let a : x .frame .accepted ≡ x .frame .accepted + 0 = omega arith in
       let u : x .frame .used ≡ x .frame .used + 0 = omega arith in
-      λ i. framedOf (record { answer = x .frame .answer; accepted = a i; used = u i; feed = x .frame .feed }) (x .tables)
+      let r : x .frame .dropped ≡ x .frame .dropped + 0 = omega arith in
+      λ i. framedOf (record { answer = x .frame .answer; accepted = a i; used = u i; feed = x .frame .feed; dropped = r i }) (x .tables)
 
   told-more : (x : Framed) (es : List Event) → toldFrom (onward bytes time x) (after (stateIn x) (next x)) es ≡ toldFrom x (stateIn x) (next x ∷ es)
-  unfolding onward trace run answersIn acceptedIn usedIn lastOf
+  unfolding onward trace run answersIn acceptedIn usedIn droppedIn lastOf
   told-more x es =
       let s : State = stateIn x in
       let t : State = after s (next x) in
@@ -86,6 +89,7 @@ module _ (bytes : List ℕ) (time : ℕ) where
         accepted = more (accepted (answerOf s (next x))) (x .frame .accepted) (acceptedIn (trace t es)) i;
         used = u i;
         feed = run t es .feed;
+        dropped = add-assoc (x .frame .dropped) (outcome s (next x) .given .dropped) (droppedIn t es) i;
       })
       (run t es .tables)
     where
@@ -131,8 +135,9 @@ frameTells s bytes allowed time =
     let es : List Event = singles allowed bytes time s in
     let a : 0 + acceptedIn (trace s es) ≡ acceptedIn (trace s es) = omega arith in
     let u : 0 + usedIn (trace s es) ≡ usedIn (trace s es) = omega arith in
+    let r : 0 + droppedIn s es ≡ droppedIn s es = omega arith in
     tells bytes time allowed (begun s)
-    ∙ (λ i. framedOf (record { answer = lastOf 0 (answersIn (trace s es)); accepted = a i; used = u i; feed = run s es .feed }) (run s es .tables))
+    ∙ (λ i. framedOf (record { answer = lastOf 0 (answersIn (trace s es)); accepted = a i; used = u i; feed = run s es .feed; dropped = r i }) (run s es .tables))
 
 pub frameListed : F.FrameListed
 frameListed s bytes allowed time =
@@ -180,7 +185,7 @@ frameFewer s bytes allowed time = (
 
 -- the next arrival does not look at the last answer
 blind : (bytes : List ℕ) (time n : ℕ) (f : Feed) (t : Tables)
-    → onward bytes time (framedOf (record { answer = n; accepted = 0; used = 0; feed = f }) t) ≡ onward bytes time (framedOf (opened f) t)
+    → onward bytes time (framedOf (record { answer = n; accepted = 0; used = 0; feed = f; dropped = 0 }) t) ≡ onward bytes time (framedOf (opened f) t)
 unfolding onward
 blind bytes time n f t = refl
 
@@ -190,15 +195,18 @@ unfolding through
 on-rest bytes time zero x =
     let a : x .frame .accepted ≡ x .frame .accepted + 0 = omega arith in
     let u : x .frame .used ≡ x .frame .used + 0 = omega arith in
-    λ i. framedOf (record { answer = x .frame .answer; accepted = a i; used = u i; feed = x .frame .feed }) (x .tables)
+    let r : x .frame .dropped ≡ x .frame .dropped + 0 = omega arith in
+    λ i. framedOf (record { answer = x .frame .answer; accepted = a i; used = u i; feed = x .frame .feed; dropped = r i }) (x .tables)
 on-rest bytes time (suc b) x =
     let p : ℕ = x .frame .accepted in
     let q : ℕ = x .frame .used in
+    let d : ℕ = x .frame .dropped in
     let a : p ≡ p + 0 = omega arith in
     let u : q ≡ q + 0 = omega arith in
-    let y : Framed = framedOf (record { answer = x .frame .answer; accepted = 0; used = 0; feed = x .frame .feed }) (x .tables) in
-    let same : x ≡ further p q y = λ i. framedOf (record { answer = x .frame .answer; accepted = a i; used = u i; feed = x .frame .feed }) (x .tables) in
-    ap (through (suc b) bytes time) same ∙ through-further p q bytes time (suc b) y
+    let r : d ≡ d + 0 = omega arith in
+    let y : Framed = framedOf (record { answer = x .frame .answer; accepted = 0; used = 0; feed = x .frame .feed; dropped = 0 }) (x .tables) in
+    let same : x ≡ further p q d y = λ i. framedOf (record { answer = x .frame .answer; accepted = a i; used = u i; feed = x .frame .feed; dropped = r i }) (x .tables) in
+    ap (through (suc b) bytes time) same ∙ through-further p q d bytes time (suc b) y
     ∙ rw (blind (drop q bytes) time (x .frame .answer) (x .frame .feed) (x .tables), ne-eqb (suc b) 0 (λ z. let w : ⊥ = omega (arith, z) in w))
 
 pub frameJoins : F.FrameJoins
@@ -217,7 +225,8 @@ onward-refused bytes time x h =
     let o : outcome (stateIn x) e ≡ refusal n (stateIn x) = D.refused (stateIn x) e h in
     let a : cond (accepted n) (x .frame .accepted + 1) (x .frame .accepted) ≡ x .frame .accepted = rw h in
     let u : x .frame .used + outcome (stateIn x) e .given .used ≡ x .frame .used = omega (arith, ap (λ (o : Outcome). o .given .used) o) in
-    λ i. framedOf (record { answer = n; accepted = a i; used = u i; feed = o i .given .feed }) (o i .tables)
+    let r : x .frame .dropped + outcome (stateIn x) e .given .dropped ≡ x .frame .dropped = omega (arith, ap (λ (o : Outcome). o .given .dropped) o) in
+    λ i. framedOf (record { answer = n; accepted = a i; used = u i; feed = o i .given .feed; dropped = r i }) (o i .tables)
 
 pub frameRefused : F.FrameRefused
 frameRefused s bytes allowed time h =

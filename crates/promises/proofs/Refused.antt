@@ -12,7 +12,7 @@ use Rattle.ground.proofs.Choices.{first-may, each-has}
 use Rattle.feed.specs.Feeds.{deaf}
 use Rattle.feed.specs.Events.{State, Event, Connect, Arrive, Cut, Overrun, timeOf, News, news, cutFrom, onMessage}
 use Rattle.feed.specs.Answers.{number, arrives, lacksNeed, isMore, isTooLong, lineTests, tableTests, tests, answerTo, reply}
-use Rattle.feed.specs.Steps.{act, accepted, usedOf, handed, outcome}
+use Rattle.feed.specs.Steps.{act, droppedOn, accepted, usedOf, handed, outcome}
 use Rattle.feed.specs.declared.Answer.{Answer}
 use Rattle.feed.specs.declared.Answer.the-variants.{Keep, Lose, Spoil, Skip, Take}
 use Rattle.promises.specs.Refusals.{answersTo, keeping, losing, spoiling, feedRefused, refusal}
@@ -55,7 +55,7 @@ Refuses : State → Event → (ℕ → Answer) → ℕ → Type 0
 Refuses s e made n = accepted n ≡ false → handed (made n) s e ≡ refusal n s
 
 refuses : (s : State) (e : Event) (a : Answer) → T (proper a) → accepted (number a) ≡ false → handed a s e ≡ refusal (number a) s
-unfolding proper handed Refuses number act usedOf feedRefused oneOf
+unfolding proper handed Refuses number act droppedOn usedOf feedRefused oneOf
 refuses s e (Keep n) p = each-has (Refuses s e Keep) keeping (λ h. refl, (λ h. refl, (λ h. refl, (λ h. refl, tt)))) n p
 refuses s e (Lose n) p = each-has (Refuses s e Lose) losing (λ h. refl, (λ h. refl, (λ h. refl, (λ h. refl, tt)))) n p
 refuses s e (Spoil n) p = each-has (Refuses s e Spoil) spoiling (λ h. refl, (λ h. refl, (λ h. refl, (λ h. refl, tt)))) n p

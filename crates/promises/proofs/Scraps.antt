@@ -38,7 +38,7 @@ use Rattle.promises.specs.Refusals.{answersTo, feedRefused}
 use Rattle.promises.specs.Runs.{after, run, answerOf, trace}
 use Rattle.promises.specs.Ledger.{lastOf}
 use Rattle.promises.specs.Demands.{isConnect}
-use Rattle.promises.specs.Frames.{answersIn, acceptedIn}
+use Rattle.promises.specs.Frames.{answersIn, acceptedIn, droppedIn}
 use Rattle.promises.specs.Scraps as S
 use Rattle.promises.specs.Scraps.{Lined, stateOn, linedIn, opens, scrapped, dueEvents, turnEvents, units, scrapEvents, scrapAnswers}
 
@@ -48,6 +48,7 @@ pub record Quiet (l : Line) (x : Tables) (h s : List ℕ) (t : ℕ) : Type 0 whe
   pub said : once l x h s t .heard .said ≡ false
   pub answer : once l x h s t .heard .answer ≡ 0
   pub counted : once l x h s t .heard .accepted ≡ 0
+  pub fell : once l x h s t .heard .dropped ≡ 0
   pub used : once l x h s t .heard .used ≡ length s
   pub drops : once l x h s t .heard .line .dropping ≡ l .dropping
   pub state : stateOn (linedIn (once l x h s t)) ≡ stateOf (l .feed) x
@@ -59,10 +60,15 @@ pub record Spoke (l : Line) (x : Tables) (h s : List ℕ) (t : ℕ) (e : Event) 
   pub said : once l x h s t .heard .said ≡ true
   pub answer : once l x h s t .heard .answer ≡ answerOf (stateOf (l .feed) x) e
   pub counted : once l x h s t .heard .accepted ≡ cond (accepted (answerOf (stateOf (l .feed) x) e)) 1 0
+  pub fell : once l x h s t .heard .dropped ≡ outcome (stateOf (l .feed) x) e .given .dropped
   pub state : stateOn (linedIn (once l x h s t)) ≡ after (stateOf (l .feed) x) e
   pub taken : accepted (answerOf (stateOf (l .feed) x) e) ≡ true → once l x h s t .heard .line .dropping ≡ false
   pub refused : accepted (answerOf (stateOf (l .feed) x) e) ≡ false
       → (once l x h s t .heard .used ≡ length s) × (once l x h s t .heard .line .held ≡ 0) × (once l x h s t .heard .line .dropping ≡ true)
+
+-- a refusal drops no row
+refused-none : (x : State) (e : Event) → accepted (answerOf x e) ≡ false → outcome x e .given .dropped ≡ 0
+refused-none x e h = ap (λ (o : Outcome). o .given .dropped) (D.refused x e h)
 
 pub data Turn (l : Line) (x : Tables) (h s : List ℕ) (t : ℕ) : Type 0 where
   silently : Quiet l x h s t → Turn l x h s t
@@ -93,6 +99,7 @@ module _ (l : Line) (x : Tables) (h s : List ℕ) (t : ℕ) where
         said = ap (λ (y : Hearing). y .heard .said) o;
         answer = ap (λ (y : Hearing). y .heard .answer) o;
         counted = ap (λ (y : Hearing). y .heard .accepted) o;
+        fell = ap (λ (y : Hearing). y .heard .dropped) o;
         used = ap (λ (y : Hearing). y .heard .used) o;
         drops = ap (λ (y : Hearing). y .heard .line .dropping) o;
         state = ap (λ (y : Hearing). stateOn (linedIn y)) o;
@@ -107,6 +114,7 @@ module _ (l : Line) (x : Tables) (h s : List ℕ) (t : ℕ) where
         said = ap (λ (y : Hearing). y .heard .said) o;
         answer = ap (λ (y : Hearing). y .heard .answer) o;
         counted = ap (λ (y : Hearing). y .heard .accepted) o;
+        fell = ap (λ (y : Hearing). y .heard .dropped) o;
         used = ap (λ (y : Hearing). y .heard .used) o;
         drops = ap (λ (y : Hearing). y .heard .line .dropping) o ∙ sym d;
         state = ap (λ (y : Hearing). stateOn (linedIn y)) o;
@@ -124,6 +132,7 @@ module _ (l : Line) (x : Tables) (h s : List ℕ) (t : ℕ) where
         said = ap (λ (y : Hearing). y .heard .said) o;
         answer = ap (λ (y : Hearing). y .heard .answer) o;
         counted = ap (λ (y : Hearing). y .heard .accepted) o ∙ sym (cond-no (accepted (answerOf here (Overrun t))) 1 0 n);
+        fell = ap (λ (y : Hearing). y .heard .dropped) o ∙ sym (refused-none here (Overrun t) n);
         state = ap (λ (y : Hearing). stateOn (linedIn y)) o;
         taken = λ a. absurd (true≢false (sym a ∙ n));
         refused = λ a. (ap (λ (y : Hearing). y .heard .used) o, ap (λ (y : Hearing). y .heard .line .held) o, ap (λ (y : Hearing). y .heard .line .dropping) o);
@@ -161,6 +170,10 @@ module _ (l : Line) (x : Tables) (h s : List ℕ) (t : ℕ) where
         split (λ (k : Holding). k .heard .accepted ≡ cond (accepted (g .answer)) 1 0) (accepted (g .answer)) _ _
         (λ a. sym (cond-yes (accepted (g .answer)) 1 0 a)) (λ a. sym (cond-no (accepted (g .answer)) 1 0 a))
 
+    settled-fell : through-feed .heard .dropped ≡ g .dropped
+    unfolding settled
+    settled-fell = split (λ (k : Holding). k .heard .dropped ≡ g .dropped) (accepted (g .answer)) _ _ (λ a. refl) (λ a. sym (refused-none here unit a))
+
     settled-feed : through-feed .heard .line .feed ≡ g .feed
     unfolding settled
     settled-feed = split (λ (k : Holding). k .heard .line .feed ≡ g .feed) (accepted (g .answer)) _ _ (λ a. refl) (λ a. refl)
@@ -185,6 +198,7 @@ module _ (l : Line) (x : Tables) (h s : List ℕ) (t : ℕ) where
       said = ap (λ (r : Heard). r .said) fed-heard ∙ settled-said;
       answer = ap (λ (r : Heard). r .answer) fed-heard ∙ settled-answer;
       counted = ap (λ (r : Heard). r .accepted) fed-heard ∙ settled-counted;
+      fell = ap (λ (r : Heard). r .dropped) fed-heard ∙ settled-fell;
       state = λ i. stateOf ((ap (λ (r : Heard). r .line .feed) fed-heard ∙ settled-feed) i) (fed-tables i);
       taken = λ a. ap (λ (r : Heard). r .line .dropping) fed-heard ∙ settled-taken a;
       refused = λ a.
@@ -266,6 +280,14 @@ module _ (s : List ℕ) (t : ℕ) where
   unfolding onward
   spoke-said y e p = p .said
 
+  pub spoke-fell : (y : Hearing) (e : Event) → SpokeAt y e → onward s t y .heard .dropped ≡ y .heard .dropped + outcome (at y) e .given .dropped
+  unfolding onward
+  spoke-fell y e p = ap (λ (k : ℕ). y .heard .dropped + k) (p .fell)
+
+  pub quiet-fell : (y : Hearing) → QuietAt y → onward s t y .heard .dropped ≡ y .heard .dropped
+  unfolding onward
+  quiet-fell y q = ap (λ (k : ℕ). y .heard .dropped + k) (q .fell) ∙ (let z : y .heard .dropped + 0 ≡ y .heard .dropped = omega arith in z)
+
   pub spoke-answer : (y : Hearing) (e : Event) → SpokeAt y e → onward s t y .heard .answer ≡ answerOf (at y) e
   unfolding onward
   spoke-answer y e p = p .answer
@@ -319,35 +341,41 @@ module _ (s : List ℕ) (t : ℕ) where
   pub record Told (y z : Hearing) (es : List Event) : Type 0 where
     pub ends : at z ≡ run (at y) es
     pub counts : z .heard .accepted ≡ y .heard .accepted + acceptedIn (trace (at y) es)
+    pub fell : z .heard .dropped ≡ y .heard .dropped + droppedIn (at y) es
     pub last : z .heard .said ≡ true → z .heard .answer ≡ lastOf (y .heard .answer) (answersIn (trace (at y) es))
     pub none : z .heard .said ≡ false → z .heard .answer ≡ 0
 
   onward-quiet : (y : Hearing) → QuietAt y → Told y (onward s t y) []
-  unfolding onward run trace acceptedIn answersIn lastOf
+  unfolding onward run trace acceptedIn droppedIn answersIn lastOf
   onward-quiet y q = record {
     ends = q .state;
     counts = ap (λ (k : ℕ). y .heard .accepted + k) (q .counted);
+    fell = ap (λ (k : ℕ). y .heard .dropped + k) (q .fell);
     last = λ a. absurd (true≢false (sym a ∙ q .said));
     none = λ a. q .answer;
   }
 
   onward-spoke : (y : Hearing) (e : Event) → SpokeAt y e → Told y (onward s t y) (e ∷ [])
-  unfolding onward run trace acceptedIn answersIn lastOf
+  unfolding onward run trace acceptedIn droppedIn answersIn lastOf
   onward-spoke y e p = record {
     ends = p .state;
     counts = ap (λ (k : ℕ). y .heard .accepted + k) (p .counted ∙ (let z : cond (accepted (answerOf (at y) e)) 1 0 ≡ cond (accepted (answerOf (at y) e)) 1 0 + 0 = omega arith in z));
+    fell = ap (λ (k : ℕ). y .heard .dropped + k) (p .fell ∙ (let z : outcome (at y) e .given .dropped ≡ outcome (at y) e .given .dropped + 0 = omega arith in z));
     last = λ a. p .answer;
     none = λ a. absurd (true≢false (sym (p .said) ∙ a));
   }
 
   told-more : (y z : Hearing) (e : Event) (es : List Event) → SpokeAt y e → Told (onward s t y) z es → Told y z (e ∷ es)
-  unfolding onward run trace acceptedIn answersIn lastOf
+  unfolding onward run trace acceptedIn droppedIn answersIn lastOf
   told-more y z e es p r =
       let a : at (onward s t y) ≡ after (at y) e = p .state in
       let c = onward-spoke y e p .counts in
       record {
         ends = r .ends ∙ ap (λ (x : State). run x es) a;
         counts = r .counts ∙ counting a (p .counted);
+        fell =
+            r .fell ∙ (λ i. y .heard .dropped + p .fell i + droppedIn (a i) es)
+            ∙ add-assoc (y .heard .dropped) (outcome (at y) e .given .dropped) (droppedIn (after (at y) e) es);
         last = λ h. r .last h ∙ (λ i. lastOf (p .answer i) (answersIn (trace (a i) es)));
         none = r .none;
       }
@@ -360,8 +388,8 @@ module _ (s : List ℕ) (t : ℕ) where
           ∙ add-assoc (y .heard .accepted) (cond (accepted (answerOf (at y) e)) 1 0) (acceptedIn (trace (after (at y) e) es))
 
   told-none : (y : Hearing) → (y .heard .said ≡ false → y .heard .answer ≡ 0) → Told y y []
-  unfolding run trace acceptedIn answersIn lastOf
-  told-none y h = record { ends = refl; counts = (let z : y .heard .accepted ≡ y .heard .accepted + 0 = omega arith in z); last = λ a. refl; none = h }
+  unfolding run trace acceptedIn droppedIn answersIn lastOf
+  told-none y h = record { ends = refl; counts = (let z : y .heard .accepted ≡ y .heard .accepted + 0 = omega arith in z); fell = (let z : y .heard .dropped ≡ y .heard .dropped + 0 = omega arith in z); last = λ a. refl; none = h }
 
   abbrev Rest : ℕ → Hearing → Type 0
   Rest k y = (y .heard .said ≡ false → y .heard .answer ≡ 0) → Told y (through k s t y) (units k s t y)
@@ -381,7 +409,8 @@ module _ (s : List ℕ) (t : ℕ) where
 pub scrapTells : S.ScrapTells
 scrapTells x hold scrap allowed time =
     let r = tells scrap time allowed (opens x hold) (λ a. refl) in
-    (r .ends, r .counts ∙ (let z : 0 + acceptedIn (trace (stateOn x) (scrapEvents x hold scrap allowed time)) ≡ acceptedIn (trace (stateOn x) (scrapEvents x hold scrap allowed time)) = omega arith in z), r .last, r .none)
+    let es : List Event = scrapEvents x hold scrap allowed time in
+    (r .ends, r .counts ∙ zero-add (acceptedIn (trace (stateOn x) es)), r .last, r .none, r .fell ∙ zero-add (droppedIn (stateOn x) es))
 
 -- how a scrap ends
 module _ (s : List ℕ) (t : ℕ) where
@@ -520,6 +549,7 @@ module _ (s : List ℕ) (t : ℕ) where
             let z : at s t (onward s t y) ≡ stateOf (feedRefused (onward s t y .heard .answer) (y .heard .line .feed)) (y .tables) =
             spoke-state s t y e p ∙ o ∙ ap (λ (m : ℕ). stateOf (feedRefused m (y .heard .line .feed)) (y .tables)) (sym n) in
             let c : onward s t y .heard .accepted ≡ y .heard .accepted = onward-counts s t y ∙ ap (λ (b : Bool). y .heard .accepted + cond b 1 0) (spoke-goes s t y e p ∙ f) ∙ omega arith in
+            let d : onward s t y .heard .dropped ≡ y .heard .dropped = spoke-fell s t y e p ∙ ap (λ (k : ℕ). y .heard .dropped + k) (refused-none (at s t y) e f) ∙ omega arith in
             let r = ends-off s t 0 y u (spoke-goes s t y e p ∙ f) .2 (h .0) (h .1) in (
               λ i. record {
                 said = h .0 i;
@@ -527,6 +557,7 @@ module _ (s : List ℕ) (t : ℕ) where
                 accepted = c i;
                 used = r .0 i;
                 line = record { feed = z i .feed; held = r .1 i; dropping = r .2 i };
+                dropped = d i;
               },
               ap (λ (x : State). x .tables) z,
             )
@@ -616,6 +647,7 @@ first-turn x hold scrap time =
       accepted = zero-add (o .heard .accepted) i;
       used = zero-add (o .heard .used) i;
       line = o .heard .line;
+      dropped = zero-add (o .heard .dropped) i;
     })
     (o .tables)
     (o .hold)
@@ -772,16 +804,16 @@ module _ (s : List ℕ) (t b : ℕ) where
 pub scrapStops : S.ScrapStops
 scrapStops x hold scrap a b time h = has-ended scrap time b a (opens x hold) (omega (arith, h))
 
--- p units and q bytes before a scrap are p and q more of them, and nothing else
-abbrev further : ℕ → ℕ → Hearing → Hearing
-further p q y =
+-- p units, q bytes and d rows before a scrap are p, q and d more of them, and nothing else
+abbrev further : ℕ → ℕ → ℕ → Hearing → Hearing
+further p q d y =
     hearing
-    (record { said = y .heard .said; answer = y .heard .answer; accepted = p + y .heard .accepted; used = q + y .heard .used; line = y .heard .line })
+    (record { said = y .heard .said; answer = y .heard .answer; accepted = p + y .heard .accepted; used = q + y .heard .used; line = y .heard .line; dropped = d + y .heard .dropped })
     (y .tables)
     (y .hold)
 
-module _ (p q : ℕ) (s : List ℕ) (t : ℕ) where
-  onward-further : (y : Hearing) → onward s t (further p q y) ≡ further p q (onward (drop q s) t y)
+module _ (p q d : ℕ) (s : List ℕ) (t : ℕ) where
+  onward-further : (y : Hearing) → onward s t (further p q d y) ≡ further p q d (onward (drop q s) t y)
   unfolding onward
   onward-further y =
       let o : Hearing = once (y .heard .line) (y .tables) (y .hold) (drop (y .heard .used) (drop q s)) t in
@@ -793,27 +825,28 @@ module _ (p q : ℕ) (s : List ℕ) (t : ℕ) where
         accepted = add-assoc p (y .heard .accepted) (o .heard .accepted) i;
         used = add-assoc q (y .heard .used) (o .heard .used) i;
         line = o .heard .line;
+        dropped = add-assoc d (y .heard .dropped) (o .heard .dropped) i;
       })
       (o .tables)
       (o .hold))
 
-  goes-same : (y : Hearing) → goesOn (further p q y .heard) ≡ goesOn (y .heard)
+  goes-same : (y : Hearing) → goesOn (further p q d y .heard) ≡ goesOn (y .heard)
   unfolding goesOn
   goes-same y = refl
 
-  goes-further : (y : Hearing) (b : Bool) → goesOn (onward (drop q s) t y .heard) ≡ b → goesOn (onward s t (further p q y) .heard) ≡ b
+  goes-further : (y : Hearing) (b : Bool) → goesOn (onward (drop q s) t y .heard) ≡ b → goesOn (onward s t (further p q d y) .heard) ≡ b
   goes-further y b e = ap (λ (z : Hearing). goesOn (z .heard)) (onward-further y) ∙ goes-same (onward (drop q s) t y) ∙ e
 
-  through-further : (k : ℕ) (y : Hearing) → through k s t (further p q y) ≡ further p q (through k (drop q s) t y)
+  through-further : (k : ℕ) (y : Hearing) → through k s t (further p q d y) ≡ further p q d (through k (drop q s) t y)
   through-further =
-      walk (drop q s) t (λ k y z. through k s t (further p q y) ≡ further p q z)
+      walk (drop q s) t (λ k y z. through k s t (further p q d y) ≡ further p q d z)
       (λ y. unfold through in refl)
-      (λ k y z e on. through-on s t (further p q y) k (goes-further y true e) ∙ ap (through k s t) (onward-further y) ∙ on)
-      (λ k y e. through-ends s t (further p q y) k (goes-further y false e) ∙ onward-further y)
+      (λ k y z e on. through-on s t (further p q d y) k (goes-further y true e) ∙ ap (through k s t) (onward-further y) ∙ on)
+      (λ k y e. through-ends s t (further p q d y) k (goes-further y false e) ∙ onward-further y)
 
 -- a turn does not look at what was said before
 blind : (s : List ℕ) (t : ℕ) (y : Hearing)
-    → onward s t (hearing (record { said = y .heard .said; answer = y .heard .answer; accepted = 0; used = 0; line = y .heard .line }) (y .tables) (y .hold))
+    → onward s t (hearing (record { said = y .heard .said; answer = y .heard .answer; accepted = 0; used = 0; line = y .heard .line; dropped = 0 }) (y .tables) (y .hold))
     ≡ onward s t (opens (linedIn y) (y .hold))
 unfolding onward
 blind s t y = refl
@@ -823,16 +856,19 @@ unfolding through
 on-rest s t zero y =
     let a : y .heard .accepted ≡ y .heard .accepted + 0 = omega arith in
     let u : y .heard .used ≡ y .heard .used + 0 = omega arith in
-    λ i. hearing (record { said = y .heard .said; answer = y .heard .answer; accepted = a i; used = u i; line = y .heard .line }) (y .tables) (y .hold)
+    let r : y .heard .dropped ≡ y .heard .dropped + 0 = omega arith in
+    λ i. hearing (record { said = y .heard .said; answer = y .heard .answer; accepted = a i; used = u i; line = y .heard .line; dropped = r i }) (y .tables) (y .hold)
 on-rest s t (suc b) y =
     let p : ℕ = y .heard .accepted in
     let q : ℕ = y .heard .used in
+    let d : ℕ = y .heard .dropped in
     let a : p ≡ p + 0 = omega arith in
     let u : q ≡ q + 0 = omega arith in
-    let z : Hearing = hearing (record { said = y .heard .said; answer = y .heard .answer; accepted = 0; used = 0; line = y .heard .line }) (y .tables) (y .hold) in
-    let same : y ≡ further p q z =
-    λ i. hearing (record { said = y .heard .said; answer = y .heard .answer; accepted = a i; used = u i; line = y .heard .line }) (y .tables) (y .hold) in
-    ap (through (suc b) s t) same ∙ through-further p q s t (suc b) z
+    let r : d ≡ d + 0 = omega arith in
+    let z : Hearing = hearing (record { said = y .heard .said; answer = y .heard .answer; accepted = 0; used = 0; line = y .heard .line; dropped = 0 }) (y .tables) (y .hold) in
+    let same : y ≡ further p q d z =
+    λ i. hearing (record { said = y .heard .said; answer = y .heard .answer; accepted = a i; used = u i; line = y .heard .line; dropped = r i }) (y .tables) (y .hold) in
+    ap (through (suc b) s t) same ∙ through-further p q d s t (suc b) z
     ∙ rw (blind (drop q s) t y, ne-eqb (suc b) 0 (λ z. let w : ⊥ = omega (arith, z) in w))
 
 pub scrapJoins : S.ScrapJoins

@@ -23,7 +23,7 @@ use Rattle.feed.specs.Messages.{wrongSize}
 use Rattle.feed.specs.Feeds.{deaf}
 use Rattle.feed.specs.Events.{State, Event, Arrive, Overrun, More, Heartbeat, TooLong, Message, cutFrom, news, timeOf, onMessage, newsSize, offered}
 use Rattle.feed.specs.Answers.{number, arrives, lacksNeed, isTooLong, isMore, lineTests, tableTests, tests, answerTo}
-use Rattle.feed.specs.Steps.{Outcome, accepted, usedOf, act, stateOf, handed, outcome}
+use Rattle.feed.specs.Steps.{Outcome, accepted, usedOf, act, droppedOn, stateOf, handed, outcome}
 use Rattle.feed.specs.Frames as frame
 use Rattle.feed.specs.Frames.{Framed, framedOf, opened}
 use Rattle.feed.specs.Code.Judging.{answered}
@@ -42,7 +42,7 @@ use Rattle.promises.specs.Runs.{after, answerOf}
 use Rattle.promises.specs.Frames.{stateIn}
 use Rattle.promises.specs.Scraps as S
 use Rattle.promises.specs.Scraps.{opens, units, isOverrun}
-use Rattle.promises.proofs.Scraps.{at, SpokeAt, spoke-goes, spoke-state, spoke-taken, spoke-refused, quiet-state, quiet-said, spoke-said, spoke-answer, quiet-off, units-on, units-quiet, units-off, dropped, waits, long, fed}
+use Rattle.promises.proofs.Scraps.{at, SpokeAt, spoke-goes, spoke-state, spoke-taken, spoke-refused, quiet-state, quiet-said, spoke-said, spoke-answer, spoke-fell, quiet-fell, quiet-off, units-on, units-quiet, units-off, dropped, waits, long, fed}
 use Rattle.promises.proofs.Cuts.{flow, told-waiting, waits-flow, unit-flow, onward-holds}
 
 -- bytes that are no whole unit are answered 10, 11 or 3, and change nothing
@@ -53,7 +53,7 @@ record Unfinished (x : State) (s : List ℕ) (t : ℕ) : Type 0 where
   pub among : T (oneOf answer (3 ∷ 10 ∷ 11 ∷ []))
 
 unfinished : (x : State) (s : List ℕ) (t : ℕ) → unitOf s ≡ unit.More → Unfinished x s t
-unfolding outcome handed timeOf news usedOf number act tests lineTests tableTests first arrives lacksNeed isTooLong isMore cutFrom oneOf
+unfolding outcome handed timeOf news usedOf number act droppedOn tests lineTests tableTests first arrives lacksNeed isTooLong isMore cutFrom oneOf
 unfinished x s t u = go (ltb t (x .feed .heard)) refl (deaf (x .feed .phase)) refl
   where
     go : (p : Bool) → ltb t (x .feed .heard) ≡ p → (q : Bool) → deaf (x .feed .phase) ≡ q → Unfinished x s t
@@ -142,6 +142,7 @@ module _ (B s : List ℕ) (t : ℕ) where
   record Rel (y : Hearing) (f : Framed) : Type 0 where
     pub state : stateIn f ≡ at s t y
     pub counted : f .frame .accepted ≡ y .heard .accepted
+    pub fell : f .frame .dropped ≡ y .heard .dropped
     pub left : drop (f .frame .used) B ≡ bytes y
 
   abbrev Final : ℕ → Hearing → Framed → Type 0
@@ -151,6 +152,7 @@ module _ (B s : List ℕ) (t : ℕ) where
       × (z .heard .said ≡ true → g .frame .answer ≡ z .heard .answer)
       × (z .heard .said ≡ false → (k ≡ 0 → ⊥) → T (oneOf (g .frame .answer) (3 ∷ 10 ∷ 11 ∷ [])))
       × (z .heard .line .dropping ≡ false → bytes z ≡ drop (g .frame .used) B)
+      × (g .frame .dropped ≡ z .heard .dropped)
 
   abbrev asksOf : Hearing → Look
   asksOf y = look (length (y .hold)) (y .heard .line .held) (bytes y)
@@ -168,6 +170,7 @@ module _ (B s : List ℕ) (t : ℕ) where
           accepted = cond (accepted (o .given .answer)) (f .frame .accepted + 1) (f .frame .accepted);
           used = f .frame .used + o .given .used;
           feed = o .given .feed;
+          dropped = f .frame .dropped + o .given .dropped;
         })
         (o .tables)
 
@@ -203,6 +206,7 @@ module _ (B s : List ℕ) (t : ℕ) where
             λ h nz. subst (λ (n : ℕ). T (oneOf n (3 ∷ 10 ∷ 11 ∷ []))) (sym (ap (λ (g : Framed). g .frame .answer) a)) (u .among),
             λ h. ap (λ (z : S.View). z .waiting) (waits-flow [] s t y d e) ∙ sym (r .left)
                 ∙ ap (λ (k : ℕ). drop k B) (sym (ap (λ (g : Framed). g .frame .used) a ∙ (let z : f .frame .used + 0 ≡ f .frame .used = omega arith in z))),
+            ap (λ (g : Framed). g .frame .dropped) a ∙ (let z : f .frame .dropped + 0 ≡ f .frame .dropped = omega arith in z) ∙ r .fell ∙ sym (quiet-fell s t y q),
           )
           (quiet-off s t y q) w
 
@@ -219,6 +223,10 @@ module _ (B s : List ℕ) (t : ℕ) where
         next-is : next ≡ by (outcome (at s t y) event)
         next-is = arrival (outcome (at s t y) event) o-is
 
+        fell-as : next .frame .dropped ≡ onward s t y .heard .dropped
+        fell-as =
+            ap (λ (g : Framed). g .frame .dropped) next-is ∙ ap (λ (k : ℕ). k + outcome (at s t y) event .given .dropped) (r .fell) ∙ sym (spoke-fell s t y event p)
+
         on-refused : accepted (answerOf (at s t y) event) ≡ false → Goal
         on-refused h =
             let o : goesOn (onward s t y .heard) ≡ false = spoke-goes s t y event p ∙ h in
@@ -228,6 +236,7 @@ module _ (B s : List ℕ) (t : ℕ) where
               λ a. ap (λ (g : Framed). g .frame .answer) next-is ∙ sym (spoke-answer s t y event p),
               λ a nz. absurd (true≢false (sym (spoke-said s t y event p) ∙ a)),
               λ a. absurd (true≢false (sym (spoke-refused s t y event p h) ∙ a)),
+              fell-as,
             )
             o (ap (λ (g : Framed). accepted (g .frame .answer)) next-is ∙ h)
 
@@ -239,6 +248,7 @@ module _ (B s : List ℕ) (t : ℕ) where
             record {
               state = ap stateIn next-is ∙ after-is (at s t y) event ∙ sym (spoke-state s t y event p);
               counted = ap (λ (g : Framed). g .frame .accepted) next-is ∙ is-counted (answerOf (at s t y) event) (f .frame .accepted) h ∙ ap (λ (k : ℕ). k + 1) (r .counted) ∙ sym (counted-by true o);
+              fell = fell-as;
               left =
                   ap (λ (g : Framed). drop (g .frame .used) B) next-is
                   ∙ sym (drop-drop (outcome (at s t y) event .given .used) (f .frame .used) B)
@@ -270,7 +280,7 @@ module _ (B s : List ℕ) (t : ℕ) where
       → T (all (λ e. not (isOverrun e)) (units k s t y)) → Final k (through k s t y) (frame.through k B t f)
 
   together : (k : ℕ) (y : Hearing) → Together k y
-  together zero y f r d a w = unfold through frame.through in (r .state, r .counted, a, λ b nz. absurd (nz refl), λ b. sym (r .left))
+  together zero y f r d a w = unfold through frame.through in (r .state, r .counted, a, λ b nz. absurd (nz refl), λ b. sym (r .left), r .fell)
   together (suc k) y f r d a w = go (together k (onward s t y)) (asksOf y) refl
     where
       go : Together k (onward s t y) → (v : Look) → asksOf y ≡ v → Final (suc k) (through (suc k) s t y) (frame.through (suc k) B t f)
@@ -288,12 +298,12 @@ module _ (B s : List ℕ) (t : ℕ) where
               let rest = ih (frame.onward B t f) (on-taken y f r d k n e h) (spoke-taken s t y event p h)
               (λ a. ap (λ (g : Framed). g .frame .answer) q ∙ sym (spoke-answer s t y event p)) (later-fits y k event p o w) in
               rw (through-on s t y k o, framing.through-on B t f k (ap (λ (g : Framed). accepted (g .frame .answer)) q ∙ h))
-              (rest .0, rest .1, rest .2, λ a nz. silent-last k (onward s t y) (frame.onward B t f) (spoke-said s t y event p) (rest .3) a, rest .4)
+              (rest .0, rest .1, rest .2, λ a nz. silent-last k (onward s t y) (frame.onward B t f) (spoke-said s t y event p) (rest .3) a, rest .4, rest .5)
 
 pub scrapIsFrame : S.ScrapIsFrame
 scrapIsFrame x hold scrap allowed time d h w =
     together (behind (x .line .held) hold scrap) scrap time allowed (opens x hold) (framedOf (opened (x .line .feed)) (x .tables))
-    (record { state = refl; counted = refl; left = refl }) d (λ a. absurd (true≢false (sym a))) w
+    (record { state = refl; counted = refl; fell = refl; left = refl }) d (λ a. absurd (true≢false (sym a))) w
 
 -- with a buffer for the longest unit nothing is too long
 never-asked : (u : Unit) → finished u ≡ asks.TooLong → ⊥

@@ -62,6 +62,7 @@ opens name limit answer kept = record {
     answer = answer;
     used = 0;
     feed = record { phase = Idle; next = 1; internal = 0; heard = 0; limit = kept; whole = false; fresh = true };
+    dropped = 0;
   });
 }
 

@@ -42,15 +42,21 @@ unfoldable pub usedIn : List (Event × ℕ) → ℕ
 usedIn [] = 0
 usedIn (p ∷ ps) = usedOf (p .1) (p .0) + usedIn ps
 
+-- document 02, request 6: the rows that events drop, one after the other
+unfoldable pub droppedIn : State → List Event → ℕ
+droppedIn s [] = 0
+droppedIn s (e ∷ es) = outcome s e .given .dropped + droppedIn (after s e) es
+
 -- "It reports how many it accepted, the bytes used and the last answer", 0 where there is none, "and ends exactly where single calls at the same time
--- would": all of it by the single calls, their answers and where they end
-abbrev pub told : List (Event × ℕ) → State → Framed
-told ps s = framedOf (record { answer = lastOf 0 (answersIn ps); accepted = acceptedIn ps; used = usedIn ps; feed = s .feed }) (s .tables)
+-- would": all of it by the single calls, their answers, the rows they drop and where they end
+abbrev pub told : List (Event × ℕ) → ℕ → State → Framed
+told ps n s = framedOf (record { answer = lastOf 0 (answersIn ps); accepted = acceptedIn ps; used = usedIn ps; feed = s .feed; dropped = n }) (s .tables)
 
 abbrev pub FrameTells : Type 0
 FrameTells =
     (s : State) (bytes : List ℕ) (allowed time : ℕ)
-    → framed s bytes allowed time ≡ told (trace s (singles allowed bytes time s)) (run s (singles allowed bytes time s))
+    → let es : List Event = singles allowed bytes time s in
+    framed s bytes allowed time ≡ told (trace s es) (droppedIn s es) (run s es)
 
 -- any bytes, any tables, any clock reading and any number allowed gets one of an arrival's answers
 abbrev pub FrameListed : Type 0
@@ -85,6 +91,7 @@ joined b x y =
       accepted = x .frame .accepted + y .frame .accepted;
       used = x .frame .used + y .frame .used;
       feed = y .frame .feed;
+      dropped = x .frame .dropped + y .frame .dropped;
     })
     (y .tables)
 
@@ -100,11 +107,11 @@ FrameStops =
     (s : State) (bytes : List ℕ) (a b time : ℕ) → framed s bytes a time .frame .accepted < a
     → framed s bytes (a + b) time ≡ framed s bytes a time
 
--- a refusal in a frame, or More: what stands before it stays applied, it writes nothing itself, uses nothing and counts for nothing, and "document 01
--- says what becomes of the feed"
+-- a refusal in a frame, or More: what stands before it stays applied, it writes nothing itself, uses nothing, counts for nothing and drops nothing, and
+-- "document 01 says what becomes of the feed"
 abbrev pub refusedAfter : ℕ → Framed → Framed
 refusedAfter n x =
-    framedOf (record { answer = n; accepted = x .frame .accepted; used = x .frame .used; feed = feedRefused n (x .frame .feed) }) (x .tables)
+    framedOf (record { answer = n; accepted = x .frame .accepted; used = x .frame .used; feed = feedRefused n (x .frame .feed); dropped = x .frame .dropped }) (x .tables)
 
 abbrev pub FrameRefused : Type 0
 FrameRefused =

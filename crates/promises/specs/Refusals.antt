@@ -39,4 +39,4 @@ feedRefused n f =
 
 -- all that a call that is not accepted hands back: no byte is used, and every word is as it was
 abbrev pub refusal : ℕ → State → Outcome
-refusal n s = record { given = record { answer = n; used = 0; feed = feedRefused n (s .feed) }; tables = s .tables }
+refusal n s = record { given = record { answer = n; used = 0; feed = feedRefused n (s .feed); dropped = 0 }; tables = s .tables }

@@ -32,7 +32,7 @@ use Rattle.promises.specs.Runs.{Sizes, zeroed, start, after, run, answer
 use Rattle.promises.specs.Ledger.{upTo, lastOf}
 use Rattle.promises.specs.NoHole.{kept}
 use Rattle.promises.specs.Demands.{Bytes, isConnect, connects}
-use Rattle.promises.specs.Frames.{answersIn, acceptedIn, stateIn}
+use Rattle.promises.specs.Frames.{answersIn, acceptedIn, droppedIn, stateIn}
 
 -- a line with its tables, and the feed with them
 pub record Lined : Type 0 where
@@ -79,7 +79,8 @@ scrapEvents x hold scrap allowed time = units allowed scrap time (opens x hold)
 abbrev pub scrapSaid : Lined → List ℕ → List ℕ → ℕ → ℕ → List (Event × ℕ)
 scrapSaid x hold scrap allowed time = trace (stateOn x) (scrapEvents x hold scrap allowed time)
 
--- DEMAND 1 of a scrap. What it hands back, by its events: the feed and the tables, how many were accepted, and the last answer where one is said
+-- DEMAND 1 of a scrap. What it hands back, by its events: the feed and the tables, how many were accepted, the last answer where one is said,
+-- and the rows dropped
 abbrev pub ScrapTells : Type 0
 ScrapTells =
     (x : Lined) (hold scrap : List ℕ) (allowed time : ℕ)
@@ -88,6 +89,7 @@ ScrapTells =
     × (y .heard .accepted ≡ acceptedIn (scrapSaid x hold scrap allowed time))
     × (y .heard .said ≡ true → y .heard .answer ≡ lastOf 0 (answersIn (scrapSaid x hold scrap allowed time)))
     × (y .heard .said ≡ false → y .heard .answer ≡ 0)
+    × (y .heard .dropped ≡ droppedIn (stateOn x) (scrapEvents x hold scrap allowed time))
 
 -- any bytes, any tables, any buffer, any clock reading and any number allowed gets one of these: no scrap is answered 3
 abbrev pub scrapAnswers : List ℕ
@@ -144,6 +146,7 @@ endedBy n scrap y = record {
   accepted = y .heard .accepted;
   used = length scrap;
   line = record { feed = feedRefused n (y .heard .line .feed); held = 0; dropping = true };
+  dropped = y .heard .dropped;
 }
 
 abbrev pub ScrapRefused : Type 0
@@ -251,6 +254,7 @@ onTop b y z =
       accepted = y .heard .accepted + z .heard .accepted;
       used = y .heard .used + z .heard .used;
       line = z .heard .line;
+      dropped = y .heard .dropped + z .heard .dropped;
     })
     (z .tables)
     (z .hold)
@@ -289,6 +293,7 @@ ScrapIsFrame =
     × (y .heard .said ≡ true → f .frame .answer ≡ y .heard .answer)
     × (y .heard .said ≡ false → (allowed ≡ 0 → ⊥) → T (oneOf (f .frame .answer) (3 ∷ 10 ∷ 11 ∷ [])))
     × (y .heard .line .dropping ≡ false → behind (y .heard .line .held) (y .hold) (drop (y .heard .used) scrap) ≡ drop (f .frame .used) (behind (x .line .held) hold scrap))
+    × (f .frame .dropped ≡ y .heard .dropped)
 
 -- and with a buffer for the longest unit, of 20 + 65,535 bytes, 22 is never due of bytes
 abbrev pub longest : ℕ
