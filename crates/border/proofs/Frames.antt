@@ -35,6 +35,7 @@ onward-is bytes time y =
       accepted = cond (accepted (o .given .answer)) (y .frame .accepted + 1) (y .frame .accepted);
       used = y .frame .used + o .given .used;
       feed = o .given .feed;
+      dropped = y .frame .dropped + o .given .dropped;
     })
     (o .tables))
     (same-out (stateIn y) (Arrives (drop (y .frame .used) bytes) time))

@@ -79,6 +79,7 @@ onward-is scrap time y =
       accepted = y .heard .accepted + z .heard .accepted;
       used = y .heard .used + z .heard .used;
       line = z .heard .line;
+      dropped = y .heard .dropped + z .heard .dropped;
     })
     (z .tables)
     (z .hold))
@@ -104,7 +105,7 @@ module _ (l : MmdhLine) (x : Tables) (hold scrap : List ℕ) (time : ℕ) where
   abbrev afterOne : PlainHearing → PlainHearing
   afterOne z =
       plainHearing
-      (record { said = z .heard .said; answer = z .heard .answer; accepted = 0 + z .heard .accepted; used = 0 + z .heard .used; line = z .heard .line })
+      (record { said = z .heard .said; answer = z .heard .answer; accepted = 0 + z .heard .accepted; used = 0 + z .heard .used; line = z .heard .line; dropped = 0 + z .heard .dropped })
       (z .tables)
       (z .hold)
 
@@ -114,7 +115,14 @@ module _ (l : MmdhLine) (x : Tables) (hold scrap : List ℕ) (time : ℕ) where
 
   same-one : (z : PlainHearing) → afterOne z ≡ z
   same-one z = λ i. plainHearing
-      (record { said = z .heard .said; answer = z .heard .answer; accepted = zero-add (z .heard .accepted) i; used = zero-add (z .heard .used) i; line = z .heard .line })
+      (record {
+        said = z .heard .said;
+        answer = z .heard .answer;
+        accepted = zero-add (z .heard .accepted) i;
+        used = zero-add (z .heard .used) i;
+        line = z .heard .line;
+        dropped = zero-add (z .heard .dropped) i;
+      })
       (z .tables)
       (z .hold)
 

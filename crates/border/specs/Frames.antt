@@ -23,6 +23,7 @@ plainOnward bytes time x =
       accepted = cond (accepted (o .given .answer)) (x .frame .accepted + 1) (x .frame .accepted);
       used = x .frame .used + o .given .used;
       feed = o .given .feed;
+      dropped = x .frame .dropped + o .given .dropped;
     })
     (o .tables)
 

@@ -37,6 +37,7 @@ plainOnward scrap time y =
       accepted = y .heard .accepted + z .heard .accepted;
       used = y .heard .used + z .heard .used;
       line = z .heard .line;
+      dropped = y .heard .dropped + z .heard .dropped;
     })
     (z .tables)
     (z .hold)
