@@ -363,11 +363,11 @@ pub ruleset walking = (needs, walk-starts, walk-ends, ends-count, walk-clear, co
 abbrev pub Few : Book → Type 0
 Few b = (length (b .bids) ≤ depth) × (length (b .offers) ≤ depth)
 
-abbrev FewIn : Option Book → Type 0
+abbrev pub FewIn : Option Book → Type 0
 FewIn none = Unit {0}
 FewIn (some b) = Few b
 
-few-on : (time : ℕ) (e : Entry) (b : Book) → Few b → FewIn (onBook time e b)
+pub few-on : (time : ℕ) (e : Entry) (b : Book) → Few b → FewIn (onBook time e b)
 unfolding onBook onSide pick
 few-on time e b h =
     split FewIn (eqb (e .action) 74) _ _ (λ a. (omega arith, omega arith))

@@ -1,6 +1,6 @@
 -- What a connect and a call of the program come to. Assumes nothing.
 use Prim.Native.Nat.{ℕ, _+_, _-_, _^_, _≤_, _<_}
-use mathlib.Core.Path.{_≡_, refl, ap, _∙_}
+use mathlib.Core.Path.{_≡_, refl, ap, sym, _∙_}
 use mathlib.Core.Bool.{cond}
 use mathlib.Core.List.{List}
 use native.Mathlib.Decide.{decLe}
@@ -49,7 +49,7 @@ module _ (r : Run) (buf : List ℕ) (t u : Tables) (g : Given) (w : Within r buf
         within = record { order = omega arith; inside = w .inside; size = w .size };
         forward = omega arith;
         end = refl;
-        made = rw used e;
+        made = rw used ((λ i. outOf (record { answer = g .answer; used = g .used; feed = g .feed; dropped = ap (λ (o : Outcome). o .given .dropped) (sym e) i }) u) ∙ e);
         units = k;
         over = refl;
       }

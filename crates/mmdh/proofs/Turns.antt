@@ -9,8 +9,8 @@ use lib.ListN.{length, take, drop, length-append, length-drop, take-append-drop}
 use lib.Seq.{take-add, drop-at, drop-drop, length-take-le}
 use borrow.Author.Needs.{needs}
 use borrow.Author.Tests.{ltb-true, ltb-false, leb-true, leb-false, le-leb, lt-leb, not-true, not-false}
-use Rattle.feed.specs.Events.{Tables}
-use Rattle.feed.specs.Steps.{Outcome, accepted, stateOf, outOf}
+use Rattle.feed.specs.Events.{Tables, Arrive}
+use Rattle.feed.specs.Steps.{Outcome, accepted, stateOf, outOf, outcome}
 use Rattle.feed.specs.Program.{bufferSize}
 use Rattle.feed.proofs.Following.{keeps, wanting, used-some}
 use Rattle.mmdh.specs.Code.Runs.{Within, left, standOf, runFrom, Called, Refilled, Turned, Drained}
@@ -34,7 +34,7 @@ left-length r buf w =
 
 module _ (r q : Run) (buf : List ℕ) (t u : Tables) (w : Within r buf) (c : Called r q buf t u) where
   abbrev made : Outcome
-  made = outOf (record { answer = q .answer; used = q .from - r .from; feed = q .feed }) u
+  made = outOf (record { answer = q .answer; used = q .from - r .from; feed = q .feed; dropped = outcome (stateOf (r .feed) t) (Arrive (left r buf) 0) .given .dropped }) u
 
   short : length (left r buf) ≤ bufferSize
   short =

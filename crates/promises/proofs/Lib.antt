@@ -24,3 +24,4 @@ pub mod Contracts
 pub mod Why
 pub mod Ends
 pub mod Sides
+pub mod Dropped

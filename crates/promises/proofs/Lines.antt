@@ -294,7 +294,7 @@ unfolding refusedSince
 since-two [] q b = refl
 since-two (a ∷ p) q b = since-two p q (cond (isConnect (a .0)) (b && not (accepted (a .1))) (b || not (accepted (a .1))))
 
-trace-two : (es fs : List Event) (s : State) → trace s (es ++ fs) ≡ trace s es ++ trace (run s es) fs
+pub trace-two : (es fs : List Event) (s : State) → trace s (es ++ fs) ≡ trace s es ++ trace (run s es) fs
 unfolding trace run
 trace-two [] fs s = refl
 trace-two (e ∷ es) fs s = ap (λ (r : List (Event × ℕ)). (e, answerOf s e) ∷ r) (trace-two es fs (after s e))

@@ -26,5 +26,6 @@ pub mod Pieces
 pub mod Frames
 pub mod Scraps
 pub mod Torn
+pub mod Dropped
 pub mod Why
 pub mod Sides

@@ -30,12 +30,14 @@ standOf r x = record { answer = r .answer; units = r .units; state = stateOf (r 
 abbrev pub runFrom : List ℕ → Stand → Stand
 runFrom s x = follow (length s + 1) s x
 
--- q is r after one call at the bytes that are left: what the call hands back; the run is over where it is not accepted
+-- q is r after one call at the bytes that are left: what the call hands back, of which a run keeps all but the rows dropped; the run is over where it is
+-- not accepted
 pub record Called (r q : Run) (buf : List ℕ) (x after : Tables) : Type 0 where
   pub within : Within q buf
   pub forward : r .from ≤ q .from
   pub end : q .to ≡ r .to
-  pub made : outOf (record { answer = q .answer; used = q .from - r .from; feed = q .feed }) after ≡ outcome (stateOf (r .feed) x) (Arrive (left r buf) 0)
+  pub made : outOf (record { answer = q .answer; used = q .from - r .from; feed = q .feed; dropped = outcome (stateOf (r .feed) x) (Arrive (left r buf) 0) .given .dropped }) after
+      ≡ outcome (stateOf (r .feed) x) (Arrive (left r buf) 0)
   pub units : q .units ≡ cond (accepted (q .answer)) (r .units + 1) (r .units)
   pub over : q .over ≡ ltb 2 (q .answer)
 
