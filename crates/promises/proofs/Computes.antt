@@ -15,6 +15,7 @@ use Rattle.ladder.specs.Sides as ladder-Sides
 use Rattle.ladder.specs.Walk as ladder-Walk
 use Rattle.ladder.specs.Words as ladder-Words
 use Rattle.books.specs.Code.Rows as books-Code-Rows
+use Rattle.books.specs.Code.Turns as books-Code-Turns
 use Rattle.books.specs.Reading as books-Reading
 use Rattle.books.specs.Table as books-Table
 use Rattle.strips.specs.Code.Shapes as strips-Code-Shapes
@@ -39,8 +40,10 @@ use Rattle.promises.specs.Checks as promises-Checks
 use Rattle.promises.specs.Decisions as promises-Decisions
 use Rattle.promises.specs.Demands as promises-Demands
 use Rattle.promises.specs.Desk as promises-Desk
+use Rattle.promises.specs.Dropped as promises-Dropped
 use Rattle.promises.specs.Emptied as promises-Emptied
 use Rattle.promises.specs.Entries as promises-Entries
+use Rattle.promises.specs.Fallen as promises-Fallen
 use Rattle.promises.specs.Frames as promises-Frames
 use Rattle.promises.specs.GoodMorning as promises-GoodMorning
 use Rattle.promises.specs.Leaves as promises-Leaves
@@ -90,7 +93,7 @@ unfolding slots-Slots.blocks slots-Slots.lowest slots-Slots.place slots-Slots.fl
 slots-slots = 0
 
 unfoldable ladder-code-arrays : ℕ
-unfolding ladder-Code-Arrays.fitsAt ladder-Code-Arrays.tenAfter ladder-Code-Arrays.countAfter
+unfolding ladder-Code-Arrays.fitsAt ladder-Code-Arrays.tenAfter ladder-Code-Arrays.countAfter ladder-Code-Arrays.dropsTenth
 ladder-code-arrays = 0
 
 unfoldable ladder-code-loading : ℕ
@@ -102,11 +105,11 @@ unfolding ladder-Message.entriesFrom ladder-Message.bookSized ladder-Message.lis
 ladder-message = 0
 
 unfoldable ladder-sides : ℕ
-unfolding ladder-Sides.better ladder-Sides.has ladder-Sides.newFits ladder-Sides.newRows ladder-Sides.changeFits ladder-Sides.changeRows ladder-Sides.deleteFits ladder-Sides.deleteRows ladder-Sides.fits ladder-Sides.rowsAfter ladder-Sides.onSide
+unfolding ladder-Sides.better ladder-Sides.has ladder-Sides.newFits ladder-Sides.newRows ladder-Sides.pushedOut ladder-Sides.changeFits ladder-Sides.changeRows ladder-Sides.deleteFits ladder-Sides.deleteRows ladder-Sides.fits ladder-Sides.rowsAfter ladder-Sides.fellFrom ladder-Sides.wasDropped ladder-Sides.onSide
 ladder-sides = 0
 
 unfoldable ladder-walk : ℕ
-unfolding ladder-Walk.onBook ladder-Walk.walk
+unfolding ladder-Walk.onBook ladder-Walk.walk ladder-Walk.fellOff ladder-Walk.dropped
 ladder-walk = 0
 
 unfoldable ladder-words : ℕ
@@ -117,12 +120,16 @@ unfoldable books-code-rows : ℕ
 unfolding books-Code-Rows.rowOfSide books-Code-Rows.rowOfBook books-Code-Rows.sideOfWords books-Code-Rows.sideOfBook
 books-code-rows = 0
 
+unfoldable books-code-turns : ℕ
+unfolding books-Code-Turns.slotDrops books-Code-Turns.placeDrops
+books-code-turns = 0
+
 unfoldable books-reading : ℕ
 unfolding books-Reading.noBook books-Reading.readAnswer books-Reading.readRow books-Reading.sideAnswer books-Reading.readsFrom books-Reading.rowCount books-Reading.sideBy books-Reading.readSide
 books-reading = 0
 
 unfoldable books-table : ℕ
-unfolding books-Table.unsound books-Table.noSlot books-Table.misfits books-Table.bookAnswer books-Table.booksAfter
+unfolding books-Table.unsound books-Table.noSlot books-Table.misfits books-Table.bookAnswer books-Table.booksAfter books-Table.rowsDropped
 books-table = 0
 
 unfoldable strips-code-shapes : ℕ
@@ -178,7 +185,7 @@ unfolding feed-Reasons.why feed-Reasons.badgeBy
 feed-reasons = 0
 
 unfoldable feed-steps : ℕ
-unfolding feed-Steps.loggedOn feed-Steps.clearsOn feed-Steps.clears feed-Steps.tablesAfter feed-Steps.does feed-Steps.counted feed-Steps.taken feed-Steps.act feed-Steps.usedOf feed-Steps.handed feed-Steps.outcome
+unfolding feed-Steps.loggedOn feed-Steps.clearsOn feed-Steps.clears feed-Steps.tablesAfter feed-Steps.does feed-Steps.counted feed-Steps.taken feed-Steps.act feed-Steps.usedOf feed-Steps.drops feed-Steps.newsDrops feed-Steps.droppedOn feed-Steps.handed feed-Steps.outcome
 feed-steps = 0
 
 unfoldable lines-looks : ℕ
@@ -194,7 +201,7 @@ unfolding promises-Answering.oneCall promises-Answering.fed promises-Answering.l
 promises-answering = 0
 
 unfoldable promises-build : ℕ
-unfolding promises-Build.bytes promises-Build.joined promises-Build.header promises-Build.unit promises-Build.heartbeat promises-Build.message promises-Build.sendKey promises-Build.logon promises-Build.logout promises-Build.refresh promises-Build.complete promises-Build.entry promises-Build.bookMessage promises-Build.fill promises-Build.row promises-Build.block promises-Build.feed promises-Build.both promises-Build.state promises-Build.start promises-Build.arrives promises-Build.gets promises-Build.endsBoth promises-Build.ends promises-Build.case promises-Build.logsOn
+unfolding promises-Build.bytes promises-Build.joined promises-Build.header promises-Build.unit promises-Build.heartbeat promises-Build.message promises-Build.sendKey promises-Build.logon promises-Build.logout promises-Build.refresh promises-Build.complete promises-Build.entry promises-Build.bookMessage promises-Build.fill promises-Build.row promises-Build.block promises-Build.feed promises-Build.both promises-Build.state promises-Build.start promises-Build.arrives promises-Build.gets promises-Build.dropping promises-Build.endsBoth promises-Build.ends promises-Build.case promises-Build.logsOn
 promises-build = 0
 
 unfoldable promises-checks : ℕ
@@ -213,16 +220,24 @@ unfoldable promises-desk : ℕ
 unfolding promises-Desk.example1 promises-Desk.words1 promises-Desk.tenEntries promises-Desk.tenRows promises-Desk.alone promises-Desk.next promises-Desk.live promises-Desk.spoilt promises-Desk.desk
 promises-desk = 0
 
+unfoldable promises-dropped : ℕ
+unfolding promises-Dropped.sideFor promises-Dropped.meetsTen promises-Dropped.tensMet promises-Dropped.tensOf promises-Dropped.tensBrought promises-Dropped.droppedByAll
+promises-dropped = 0
+
 unfoldable promises-emptied : ℕ
 unfolding promises-Emptied.emptying promises-Emptied.full promises-Emptied.empty promises-Emptied.garbage promises-Emptied.leaves promises-Emptied.unsound promises-Emptied.unlisted promises-Emptied.emptied promises-Emptied.without promises-Emptied.live promises-Emptied.liveWithout promises-Emptied.refreshing promises-Emptied.refreshingWithout promises-Emptied.around promises-Emptied.days
 promises-emptied = 0
 
 unfoldable promises-entries : ℕ
-unfolding promises-Entries.makes promises-Entries.not promises-Entries.bids promises-Entries.offers promises-Entries.news promises-Entries.changes promises-Entries.deletes promises-Entries.walks
+unfolding promises-Entries.drops promises-Entries.makes promises-Entries.not promises-Entries.bids promises-Entries.offers promises-Entries.news promises-Entries.changes promises-Entries.deletes promises-Entries.walks
 promises-entries = 0
 
+unfoldable promises-fallen : ℕ
+unfolding promises-Fallen.bids promises-Fallen.offers promises-Fallen.rowOut promises-Fallen.falls promises-Fallen.entries promises-Fallen.tells promises-Fallen.three promises-Fallen.messages promises-Fallen.tooFar promises-Fallen.full promises-Fallen.others promises-Fallen.first promises-Fallen.second promises-Fallen.last promises-Fallen.afterOne promises-Fallen.afterTwo promises-Fallen.frame promises-Fallen.live promises-Fallen.sums promises-Fallen.numbers promises-Fallen.scraps promises-Fallen.pieces
+promises-fallen = 0
+
 unfoldable promises-frames : ℕ
-unfolding promises-Frames.singles promises-Frames.answersIn promises-Frames.acceptedIn promises-Frames.usedIn promises-Frames.afterAct promises-Frames.runActs promises-Frames.eventsOf promises-Frames.written promises-Frames.actsBytes
+unfolding promises-Frames.singles promises-Frames.answersIn promises-Frames.acceptedIn promises-Frames.usedIn promises-Frames.droppedIn promises-Frames.afterAct promises-Frames.runActs promises-Frames.eventsOf promises-Frames.written promises-Frames.actsBytes
 promises-frames = 0
 
 unfoldable promises-goodmorning : ℕ
@@ -298,5 +313,5 @@ unfolding promises-Widths.widths
 promises-widths = 0
 
 unfoldable pub computes : ℕ
-unfolding bind ground-choice wire-codes wire-number wire-units slots-code-turns slots-layout slots-slots ladder-code-arrays ladder-code-loading ladder-message ladder-sides ladder-walk ladder-words books-code-rows books-reading books-table strips-code-shapes strips-forms strips-reading strips-table strips-words feed-answers feed-code-judging feed-events feed-feeds feed-frames feed-messages feed-program feed-reasons feed-steps lines-looks lines-scraps promises-answering promises-build promises-checks promises-decisions promises-demands promises-desk promises-emptied promises-entries promises-frames promises-goodmorning promises-leaves promises-ledger promises-mornings promises-phases promises-pieces promises-refusals promises-repaints promises-runs promises-scraps promises-section6 promises-sizes promises-statuses promises-strips promises-tables promises-torn promises-traps promises-widths
+unfolding bind ground-choice wire-codes wire-number wire-units slots-code-turns slots-layout slots-slots ladder-code-arrays ladder-code-loading ladder-message ladder-sides ladder-walk ladder-words books-code-rows books-code-turns books-reading books-table strips-code-shapes strips-forms strips-reading strips-table strips-words feed-answers feed-code-judging feed-events feed-feeds feed-frames feed-messages feed-program feed-reasons feed-steps lines-looks lines-scraps promises-answering promises-build promises-checks promises-decisions promises-demands promises-desk promises-dropped promises-emptied promises-entries promises-fallen promises-frames promises-goodmorning promises-leaves promises-ledger promises-mornings promises-phases promises-pieces promises-refusals promises-repaints promises-runs promises-scraps promises-section6 promises-sizes promises-statuses promises-strips promises-tables promises-torn promises-traps promises-widths
 computes = 0

@@ -18,6 +18,7 @@ use Rattle.promises.specs.Traps as Traps
 use Rattle.promises.specs.Mornings as Mornings
 use Rattle.promises.specs.Repaints as Repaints
 use Rattle.promises.specs.Torn as Torn
+use Rattle.promises.specs.Fallen as Fallen
 use Rattle.promises.proofs.Computes.{computes}
 
 pub desk-hold : wrong Desk.desk ≡ []
@@ -415,3 +416,23 @@ scrapCuttings-hold = refl
 pub scrapBroken-hold : wrong Torn.broken ≡ []
 unfolding computes
 scrapBroken-hold = refl
+
+pub fallsEntries-hold : wrong Fallen.entries ≡ []
+unfolding computes
+fallsEntries-hold = refl
+
+pub fallsMessages-hold : wrong Fallen.messages ≡ []
+unfolding computes
+fallsMessages-hold = refl
+
+pub fallsOthers-hold : wrong Fallen.others ≡ []
+unfolding computes
+fallsOthers-hold = refl
+
+pub fallsSums-hold : wrong Fallen.sums ≡ []
+unfolding computes
+fallsSums-hold = refl
+
+pub fallsPieces-hold : wrong Fallen.pieces ≡ []
+unfolding computes
+fallsPieces-hold = refl

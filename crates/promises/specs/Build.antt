@@ -90,11 +90,15 @@ start n = state (feed Idle 1 0 0 false true) (replicate n 0)
 
 -- a unit that arrives alone at a time: answered so, and used up where the answer is 0, 1 or 2
 unfoldable pub arrives : List ℕ → ℕ → ℕ → Call
-arrives s time answer = record { event = Arrive s time; answer = answer; used = cond (leb answer 2) (length s) 0 }
+arrives s time answer = record { event = Arrive s time; answer = answer; used = cond (leb answer 2) (length s) 0; dropped = 0 }
 
 -- a call that uses no bytes
 unfoldable pub gets : Event → ℕ → Call
-gets e answer = record { event = e; answer = answer; used = 0 }
+gets e answer = record { event = e; answer = answer; used = 0; dropped = 0 }
+
+-- the same where rows are dropped
+unfoldable pub dropping : ℕ → Call → Call
+dropping n c = record { event = c .event; answer = c .answer; used = c .used; dropped = n }
 
 unfoldable pub endsBoth : Feed → List ℕ → List ℕ → List (ℕ × ℕ) → End
 endsBoth f words strips badges = record { feed = f; words = words; strips = strips; badges = badges }

@@ -38,13 +38,14 @@ sameFeed f g =
     && eqb (f .heard) (g .heard) && eqb (f .limit) (g .limit) && Bool·beq (f .whole) (g .whole) && Bool·beq (f .fresh) (g .fresh)
 
 unfoldable pub sameGiven : Given → Given → Bool
-sameGiven a b = eqb (a .answer) (b .answer) && eqb (a .used) (b .used) && sameFeed (a .feed) (b .feed)
+sameGiven a b = eqb (a .answer) (b .answer) && eqb (a .used) (b .used) && sameFeed (a .feed) (b .feed) && eqb (a .dropped) (b .dropped)
 
 -- a call, and all that it must hand back but for the feed and the tables
 pub record Call : Type 0 where
   pub event : Event
   pub answer : ℕ
   pub used : ℕ
+  pub dropped : ℕ
 
 -- where a run must end: the feed, every word of the books and of the strips, and the badge's number at some times
 pub record End : Type 0 where
@@ -66,7 +67,7 @@ runs s [] e = sameEnd s e
 runs s (c ∷ cs) e =
     let o : Outcome = outcome s (c .event) in
     let rest : Bool = runs (record { feed = o .given .feed; tables = o .tables }) cs e in
-    eqb (o .given .answer) (c .answer) && eqb (o .given .used) (c .used) && rest
+    eqb (o .given .answer) (c .answer) && eqb (o .given .used) (c .used) && eqb (o .given .dropped) (c .dropped) && rest
 
 unfoldable pub sameNumber : ℤ → ℤ → Bool
 sameNumber (pos m) (pos n) = eqb m n

@@ -6,7 +6,7 @@ use lib.ListN.{replicate}
 use Rattle.feed.specs.declared.Phase.the-variants.{Live, Lost}
 use Rattle.feed.specs.declared.Feed.{Feed}
 use Rattle.promises.specs.Checks.{Check, Call}
-use Rattle.promises.specs.Build.{unit, entry, bookMessage, fill, row, block, feed, start, arrives, ends, case, logsOn}
+use Rattle.promises.specs.Build.{unit, entry, bookMessage, fill, row, block, feed, start, arrives, dropping, ends, case, logsOn}
 
 -- the bytes that example 1 prints
 unfoldable pub example1 : List ℕ
@@ -52,7 +52,7 @@ desk =
     (ends (live 4) (block 700 (row 9730 4000 2 ∷ row 9720 100 1 ∷ []) []) ((0, 1) ∷ []))
     ∷ case "3: ten bids" (start 64) (alone (bookMessage 5 (tenEntries 10)) 0) (ends (live 3) (block 5 (tenRows 10) []) [])
     ∷ case "3: a new best, the old tenth gone" (start 64)
-    (logsOn 0 0 ++ (arrives (unit 3 1 (bookMessage 5 (tenEntries 10))) 0 0 ∷ arrives (unit 4 2 (bookMessage 5 (entry 0 1 0 10001 7 3 ∷ []))) 0 0 ∷ []))
+    (logsOn 0 0 ++ (arrives (unit 3 1 (bookMessage 5 (tenEntries 10))) 0 0 ∷ dropping 1 (arrives (unit 4 2 (bookMessage 5 (entry 0 1 0 10001 7 3 ∷ []))) 0 0) ∷ []))
     (ends (live 4) (block 5 (row 10001 7 3 ∷ tenRows 9) []) [])
     ∷ case "4: level 0" (start 64) (alone (bookMessage 700 (entry 0 0 0 9730 1 1 ∷ [])) 15) (ends (spoilt 3) (replicate 64 0) [])
     ∷ case "4: level 11" (start 64) (alone (bookMessage 700 (entry 0 11 0 9730 1 1 ∷ [])) 15) (ends (spoilt 3) (replicate 64 0) [])

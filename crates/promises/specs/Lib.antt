@@ -27,5 +27,6 @@ pub mod Frames
 pub mod Scraps
 pub mod Torn
 pub mod Dropped
+pub mod Fallen
 pub mod Why
 pub mod Sides

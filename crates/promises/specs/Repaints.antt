@@ -18,7 +18,8 @@ use Rattle.promises.specs.Runs.{start, isGreen, history}
 use Rattle.promises.specs.Frames.{stateIn, restOf, joined, singles, Act, One, AtOnce, endActs, writtenActs}
 use Rattle.promises.specs.Mornings.{wordsOfOne}
 
--- what a frame must hand back: the last answer, the units accepted, the bytes used, the feed; and every word of both tables
+-- what a frame must hand back: the last answer, the units accepted, the bytes used, the feed, and no row dropped (those that drop some are in specs/Fallen);
+-- and every word of both tables
 pub record Told : Type 0 where
   pub answer : ℕ
   pub accepted : ℕ
@@ -30,7 +31,7 @@ pub record Told : Type 0 where
 unfoldable pub tells : Framed → Told → Bool
 tells o t =
     eqb (o .frame .answer) (t .answer) && eqb (o .frame .accepted) (t .accepted) && eqb (o .frame .used) (t .used)
-    && sameFeed (o .frame .feed) (t .feed) && sameWords (o .tables .books) (t .words) && sameWords (o .tables .strips) (t .strips)
+    && sameFeed (o .frame .feed) (t .feed) && eqb (o .frame .dropped) 0 && sameWords (o .tables .books) (t .words) && sameWords (o .tables .strips) (t .strips)
 
 -- a feed of next SeqNum 5, last internal number 7, last heard 10, with a bid of 700 and no strip, is handed bytes, a number allowed and a time
 unfoldable pub frame : String → Feed → List ℕ → ℕ → ℕ → Told → Check

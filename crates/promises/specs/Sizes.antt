@@ -17,7 +17,7 @@ unfoldable pub torn : String → List ℕ → Check
 torn name s = oneCall name (fed Live) held (gets (Arrive s 20) 3) (fed Live) held
 
 unfoldable pub quiet : String → List ℕ → Check
-quiet name s = oneCall name (fed Live) held (record { event = Arrive s 20; answer = 0; used = 20 }) (feed Live 5 7 20 true true) held
+quiet name s = oneCall name (fed Live) held (record { event = Arrive s 20; answer = 0; used = 20; dropped = 0 }) (feed Live 5 7 20 true true) held
 
 -- a unit whose header has another MsgLength
 unfoldable pub withLength : ℕ → List ℕ → List ℕ
@@ -36,7 +36,7 @@ more =
     ∷ torn "the two bytes of MsgSize" (take 22 (unit 5 8 fits))
     ∷ torn "one byte short" (take 55 (unit 5 8 fits))
     ∷ oneCall "all of it" (fed Live) held (arrives (unit 5 8 fits) 20 0) (heard Live 8) both
-    ∷ oneCall "and bytes behind it" (fed Live) held (record { event = Arrive (unit 5 8 fits ++ (1 ∷ 2 ∷ 3 ∷ [])) 20; answer = 0; used = 56 }) (heard Live 8) both
+    ∷ oneCall "and bytes behind it" (fed Live) held (record { event = Arrive (unit 5 8 fits ++ (1 ∷ 2 ∷ 3 ∷ [])) 20; answer = 0; used = 56; dropped = 0 }) (heard Live 8) both
     ∷ []
 
 unfoldable pub heartbeats : List Check

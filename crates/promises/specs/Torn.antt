@@ -61,8 +61,8 @@ shut f = line f 0 true
 unfoldable pub sameLine : Line → Line → Bool
 sameLine l k = sameFeed (l .feed) (k .feed) && eqb (l .held) (k .held) && Bool·beq (l .dropping) (k .dropping)
 
--- what a scrap must hand back: whether there is an answer, the last one, the units accepted, the bytes used, the line; every byte of the buffer; and
--- every word of both tables
+-- what a scrap must hand back: whether there is an answer, the last one, the units accepted, the bytes used, the line, and no row dropped (those that drop
+-- some are in specs/Fallen); every byte of the buffer; and every word of both tables
 pub record Told : Type 0 where
   pub said : Bool
   pub answer : ℕ
@@ -76,7 +76,7 @@ pub record Told : Type 0 where
 unfoldable pub tells : Hearing → Told → Bool
 tells y t =
     Bool·beq (y .heard .said) (t .said) && eqb (y .heard .answer) (t .answer) && eqb (y .heard .accepted) (t .accepted) && eqb (y .heard .used) (t .used)
-    && sameLine (y .heard .line) (t .line) && sameWords (y .hold) (t .hold) && sameWords (y .tables .books) (t .words)
+    && sameLine (y .heard .line) (t .line) && eqb (y .heard .dropped) 0 && sameWords (y .hold) (t .hold) && sameWords (y .tables .books) (t .words)
     && sameWords (y .tables .strips) (t .strips)
 
 -- no answer to what came last, so many units accepted before it; an answer; both with a bid of 700 and no strip
