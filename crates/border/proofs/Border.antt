@@ -12,6 +12,7 @@ use Rattle.feed.proofs.Laws.{phase-back, plain-badge}
 use Rattle.promises.specs.Runs.{Sizes, start, after, run, trace}
 use Rattle.promises.proofs.Demands as D
 use Rattle.promises.proofs.NoHole as N
+use Rattle.promises.proofs.Dropped.{numberTold}
 use Rattle.screen.specs.Plain.{yes, bit, feedOf, plainFeed, plainOutcome}
 use Rattle.border.specs.Border as C
 use Rattle.screen.specs.Calls.{Call, eventOf, handsBack}
@@ -65,6 +66,9 @@ isRun limit n cs =
 
 pub plainListed : C.PlainListed
 plainListed f x c = D.listed (stateOf (feedOf f) x) (eventOf c)
+
+pub plainNumberTold : C.PlainNumberTold
+plainNumberTold f x c = numberTold (stateOf (feedOf f) x) (eventOf c)
 
 badge-is : (limit : ℕ) (n : Sizes) (cs : List Call) (time : ℕ)
     → plainBadge (plainRun (plainStart limit n) cs .feed .phase) (plainRun (plainStart limit n) cs .feed .heard) (plainRun (plainStart limit n) cs .feed .limit) time

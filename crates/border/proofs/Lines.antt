@@ -26,13 +26,15 @@ use Rattle.promises.specs.Frames.{answersIn}
 use Rattle.promises.specs.Scraps.{Lined, lined, stateOn, linedIn, opens, scrapped, units, scrapSaid, scrapAnswers, View, scraps, onePiece, linked, afterLine, runLine, lineEvents, writtenLine, newLine, endLine, NoConnect}
 use Rattle.promises.proofs.Scraps.{silently, with-event, TurnAt, QuietAt, SpokeAt, turnAt, quiet-said, spoke-said, spoke-answer, spoke-state, spoke-goes, units-quiet, units-on, units-off, walk, first-turn, one-turn, scrapDropped, scrapListed, linkListed}
 use Rattle.promises.proofs.Cuts.{anyScraps, no-events}
+use Rattle.promises.specs.Dropped.{droppedByAll}
+use Rattle.promises.proofs.Dropped.{anyScrapsDrop}
 use Rattle.promises.proofs.Lines as P
 use Rattle.screen.specs.Plain.{yes, bit, linkOf, feedOf, plainFeed, lineOf, plainLine, PlainHearing, plainHearing, plainHears}
 use Rattle.screen.specs.Calls.{linkedBack, linksBack, plainSilent, hearsBack}
 use Rattle.screen.specs.declared.MmdhLine.{MmdhLine}
 use Rattle.screen.specs.declared.MmdhLinked.{MmdhLinked}
 use Rattle.border.specs.Lines as C
-use Rattle.border.specs.Lines.{plainOnward, plainThrough, plainSaid, PlainView, plainScraps, HeldLine, PlainLineAct, LinksBy, HearsBy, plainAfterLine, plainRunLine, lineActOf, lineActsOf, plainNewLine, lineSaysGreen, isLinked, noneLinked}
+use Rattle.border.specs.Lines.{plainOnward, plainThrough, plainSaid, PlainView, plainScraps, plainDropped, HeldLine, PlainLineAct, LinksBy, HearsBy, plainAfterLine, plainRunLine, lineActOf, lineActsOf, plainNewLine, lineSaysGreen, isLinked, noneLinked}
 use Rattle.border.proofs.Border.{bit-back, comesBack}
 
 pub lineComesBack : C.LineComesBack
@@ -301,6 +303,42 @@ plainAnyScraps l x hold s ss (suc k) time h = by (yes (l .dropping)) refl
         scraps-heard s ss l x hold k time d
         ∙ ap plainView (anyScraps (lined (lineOf l) x) hold s ss (suc k) time h)
         ∙ sym (scraps-heard (onePiece (s ∷ ss)) [] l x hold k time d)
+
+-- the rows dropped, in all
+dropped-own : (ss : List (List ℕ)) (x : Lined) (hold : List ℕ) (k time : ℕ)
+    → plainDropped (plainLine (x .line)) (x .tables) hold ss (suc k) time ≡ droppedByAll x hold ss (suc k) time
+unfolding plainDropped droppedByAll
+dropped-own [] x hold k time = refl
+dropped-own (s ∷ ss) x hold k time =
+    let y : Hearing = scrapped x hold s (suc k) time in
+    ap (λ (z : PlainHearing). z .heard .dropped + plainDropped (z .heard .line) (z .tables) (z .hold) ss (suc k) time) (back-own x hold s time k)
+    ∙ ap (λ (n : ℕ). y .heard .dropped + n) (dropped-own ss (linedIn y) (y .hold) k time)
+
+dropped-none : (ss : List (List ℕ)) (l : MmdhLine) (x : Tables) (hold : List ℕ) (k time : ℕ) → yes (l .dropping) ≡ true → plainDropped l x hold ss (suc k) time ≡ 0
+unfolding plainDropped
+dropped-none [] l x hold k time d = refl
+dropped-none (s ∷ ss) l x hold k time d =
+    ap (λ (z : PlainHearing). z .heard .dropped + plainDropped (z .heard .line) (z .tables) (z .hold) ss (suc k) time) (back-dropped l x hold s k time d)
+    ∙ ap (λ (n : ℕ). 0 + n) (dropped-none ss l x hold k time d)
+
+dropped-heard : (s : List ℕ) (ss : List (List ℕ)) (l : MmdhLine) (x : Tables) (hold : List ℕ) (k time : ℕ) → yes (l .dropping) ≡ false
+    → plainDropped l x hold (s ∷ ss) (suc k) time ≡ droppedByAll (lined (lineOf l) x) hold (s ∷ ss) (suc k) time
+unfolding plainDropped droppedByAll
+dropped-heard s ss l x hold k time d =
+    let y : Hearing = scrapped (lined (lineOf l) x) hold s (suc k) time in
+    ap (λ (z : PlainHearing). z .heard .dropped + plainDropped (z .heard .line) (z .tables) (z .hold) ss (suc k) time) (back-heard l x hold s k time d)
+    ∙ ap (λ (n : ℕ). y .heard .dropped + n) (dropped-own ss (linedIn y) (y .hold) k time)
+
+pub plainAnyScrapsDrop : C.PlainAnyScrapsDrop
+plainAnyScrapsDrop l x hold s ss zero time h = absurd (let z : ⊥ = omega (arith, h) in z)
+plainAnyScrapsDrop l x hold s ss (suc k) time h = by (yes (l .dropping)) refl
+  where
+    by : (b : Bool) → yes (l .dropping) ≡ b → plainDropped l x hold (s ∷ ss) (suc k) time ≡ plainDropped l x hold (onePiece (s ∷ ss) ∷ []) (suc k) time
+    by true d = dropped-none (s ∷ ss) l x hold k time d ∙ sym (dropped-none (onePiece (s ∷ ss) ∷ []) l x hold k time d)
+    by false d =
+        dropped-heard s ss l x hold k time d
+        ∙ anyScrapsDrop (lined (lineOf l) x) hold s ss (suc k) time h
+        ∙ sym (dropped-heard (onePiece (s ∷ ss)) [] l x hold k time d)
 
 -- runs
 abbrev plain : Lined → HeldLine

@@ -2,17 +2,19 @@
 -- small letter. Assumes nothing.
 use Prim.Native.Nat.{ℕ}
 use mathlib.Core.Path.{_≡_}
-use mathlib.Core.Bool.{Bool, true}
+use mathlib.Core.Bool.{Bool, true, cond}
 use mathlib.Core.List.{List, [], _∷_}
 use lib.ListN.{length}
 use lib.Dec.{T, eqb}
 use Rattle.ground.specs.Choice.{oneOf}
 use Rattle.feed.specs.Feeds.{newGiven, plainBadge}
-use Rattle.feed.specs.Events.{Tables, Event}
+use Rattle.feed.specs.Events.{Tables, Event, timeOf, news}
+use Rattle.feed.specs.Steps.{stateOf}
 use Rattle.feed.specs.declared.Feed.{Feed}
 use Rattle.promises.specs.Runs.{Sizes, zeroed, start, run, trace, History, noHistory, recall, green, replay}
 use Rattle.promises.specs.Refusals.{answersTo}
 use Rattle.promises.specs.Ledger.{Ledger, noLedger, keep, upTo}
+use Rattle.promises.specs.Dropped.{tensBrought}
 use Rattle.screen.specs.Plain.{feedOf, plainFeed, plainGiven}
 use Rattle.screen.specs.Calls.{Call, eventOf, handsBack}
 use Rattle.screen.specs.declared.MmdhFeed.{MmdhFeed}
@@ -57,6 +59,13 @@ IsRun =
 -- DEMAND 1 of the C calls: any seven numbers, any words, any bytes, any clock reading gets one of the numbered answers
 abbrev pub PlainListed : Type 0
 PlainListed = (f : MmdhFeed) (x : Tables) (c : Call) → T (oneOf (handsBack f x c .given .answer) (answersTo (eventOf c)))
+
+-- document 02, request 6: the rows that a call says were dropped are those of a book message that it answers 0, by the rules alone, and 0 of all else
+abbrev pub PlainNumberTold : Type 0
+PlainNumberTold =
+    (f : MmdhFeed) (x : Tables) (c : Call)
+    → handsBack f x c .given .dropped
+    ≡ cond (eqb (handsBack f x c .given .answer) 0) (tensBrought (timeOf (eventOf c)) (news (eventOf c)) (stateOf (feedOf f) x)) 0
 
 -- what the calls and the answers that they handed back tell
 abbrev pub plainTale : ℕ → Sizes → List Call → History

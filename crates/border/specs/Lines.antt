@@ -93,6 +93,18 @@ PlainAnyScraps =
     (l : MmdhLine) (x : Tables) (hold s : List ℕ) (ss : List (List ℕ)) (allowed time : ℕ) → length (behind (l .held) hold (onePiece (s ∷ ss))) < allowed
     → plainScraps [] l x hold (s ∷ ss) allowed time ≡ plainScraps [] l x hold (onePiece (s ∷ ss) ∷ []) allowed time
 
+-- document 02, request 6: nor does it change how many rows the calls say were dropped, in all
+unfoldable pub plainDropped : MmdhLine → Tables → List ℕ → List (List ℕ) → ℕ → ℕ → ℕ
+plainDropped l x hold [] allowed time = 0
+plainDropped l x hold (s ∷ ss) allowed time =
+    let y : PlainHearing = hearsBack l x hold s allowed time in
+    y .heard .dropped + plainDropped (y .heard .line) (y .tables) (y .hold) ss allowed time
+
+abbrev pub PlainAnyScrapsDrop : Type 0
+PlainAnyScrapsDrop =
+    (l : MmdhLine) (x : Tables) (hold s : List ℕ) (ss : List (List ℕ)) (allowed time : ℕ) → length (behind (l .held) hold (onePiece (s ∷ ss))) < allowed
+    → plainDropped l x hold (s ∷ ss) allowed time ≡ plainDropped l x hold (onePiece (s ∷ ss) ∷ []) allowed time
+
 -- RUNS: mmdh_new, then mmdh_line_connect and mmdh_line_scrap with any buffers
 pub record HeldLine : Type 0 where
   pub line : MmdhLine
