@@ -82,14 +82,7 @@ fn counts_in(words: &[u64], own: bool) -> [usize; 2]
 }
 
 // A slot's words after n entries: 18 where it is a code's own and its book is not sound.
-fn in_words(
-    words: &mut [u64],
-    own: bool,
-    code: u64,
-    part: &[u8],
-    n: usize,
-    time: u64,
-) -> Walked
+fn in_words(words: &mut [u64], own: bool, code: u64, part: &[u8], n: usize, time: u64) -> Walked
     requires { ⌜ (length (now words) ≡ bookWidth) × (entrySize * n ≤ length (now part)) ⌝ }
     ensures { λ r. ⌜ (landed (r .answer) (now (words .exit)) ≡ slotTurn books own code (walk time (entriesFrom n 0 (now (part .entry)))) (now (words .entry))) × (r .dropped ≡ slotDrops own time (entriesFrom n 0 (now (part .entry))) (now (words .entry))) ⌝ }
 {

@@ -3,6 +3,7 @@ use Prim.Native.Nat.{ℕ, _+_, _≤_, _<_, _^_}
 use mathlib.Core.Path.{_≡_, refl, ap, sym, subst, _∙_}
 use mathlib.Core.Bool.{Bool, true, false, cond}
 use mathlib.Core.List.{List, [], _∷_}
+use native.Mathlib.Decide.{decLt}
 use native.Mathlib.Omega.{arith}
 use lib.Dec.{T, ltb, leb, eqb}
 use lib.ListN.{length}
@@ -29,7 +30,7 @@ use Rattle.feed.specs.Messages.{kindOf, onMarket, market, tabled, wrongS
 use Rattle.feed.specs.Feeds.{deaf, inPhase, nextIs, internalIs, heardAt, wholeIs, freshIs}
 use Rattle.feed.specs.Events.{Tables, clearedTables, Connect, Arrive, Cut, Overrun, timeOf, News, Linked, TooLong, Message, cutFrom, news, onMessage, newsSize, offered}
 use Rattle.feed.specs.Answers.{number, arrives, lacksNeed, isMore, isTooLong, isNext, allowed, seen, unsoundFor, noSlotFor, misfitsFor, passed, lineTests, tableTests, tests}
-use Rattle.feed.specs.Code.Judging.{verdict, refusal}
+use Rattle.feed.specs.Code.Judging.{verdict, refusal, beats, unmet}
 use Rattle.feed.specs.Steps.{enterLive, isFresh, loggedOn, clearsOn, clears, tablesAfter, does, advanced, counted, taken, act, drops, newsDrops, droppedOn, accepted, usedOf, Outcome, lent, stateOf, outOf, handed, outcome}
 use Rattle.feed.specs.Code.Judging.{clearedIf, answered, usedIs, droppedIs, onTables}
 use Rattle.feed.specs.declared.Phase.the-variants.{WaitKey, WaitLogon, Lost, Closed}
@@ -305,10 +306,23 @@ NoMessage u = Run.OneOf (0 ∷ 1 ∷ []) (Declared.tagOf the-unit.the-type u)
 abbrev pub NoHeartbeat : Unit → Type 0
 NoHeartbeat u = Run.OneOf (0 ∷ 2 ∷ []) (Declared.tagOf the-unit.the-type u)
 
-is-more : (u : Unit) → NoMessage u → NoHeartbeat u → u ≡ unit.More
-is-more unit.More a b = refl
-is-more unit.Heartbeat a b = absurd (Run.miss (0 ∷ 2 ∷ []) 1 tt b)
-is-more (unit.Message q i k) a b = absurd (Run.miss (0 ∷ 1 ∷ []) 2 tt a)
+-- the answer to what is no message
+module _ (f : Feed) (n : ℕ) (u : Unit) (r : ℕ) (e : r ≡ refusal f n) where
+  pub unmet-refused : 0 < r → r ≡ unmet f n u
+  unmet-refused h = rw (← e, lt-ltb 0 r h)
+
+  pub unmet-beat : r ≤ 0 → u ≡ unit.Heartbeat → 0 ≡ unmet f n u
+  unfolding beats
+  unmet-beat h q = rw (← e, le-ltb 0 r h, q)
+
+  pub unmet-more : r ≤ 0 → NoHeartbeat u → 3 ≡ unmet f n u
+  unfolding beats
+  unmet-more h b = rw (← e, le-ltb 0 r h) (by u b)
+    where
+      by : (w : Unit) → NoHeartbeat w → 3 ≡ beats w
+      by unit.More b = refl
+      by unit.Heartbeat b = absurd (Run.miss (0 ∷ 2 ∷ []) 1 tt b)
+      by (unit.Message q i k) b = refl
 
 -- an outcome with its bytes counted
 abbrev countedOut : ℕ → Outcome → Outcome
@@ -316,7 +330,7 @@ countedOut k o = record { given = usedIs (cond (accepted (o .given .answer)) k 0
 
 module _ (f : Feed) (x : Tables) (s : List ℕ) (n : ℕ) (u : Unit) (v : u ≡ unitOf s) where
   module _ (r : ℕ) (e : r ≡ refusal f n) where
-    pub bytes-refused : (g : Given) → 0 < r → g ≡ answered r f → outOf g x ≡ outcome (stateOf f x) (Arrive s n)
+    bytes-refused : (g : Given) → 0 < r → g ≡ answered r f → outOf g x ≡ outcome (stateOf f x) (Arrive s n)
     unfolding handed timeOf news number act droppedOn usedOf isTake
     bytes-refused g h l =
         let w : Keep r ≡ verdict f n (cutFrom s (unitOf s)) =
@@ -326,14 +340,42 @@ module _ (f : Feed) (x : Tables) (s : List ℕ) (n : ℕ) (u : Unit) (v : u ≡ 
     heard-now : r ≤ 0 → (ltb n (f .heard) ≡ false) × (deaf (f .phase) ≡ false)
     heard-now h = refuses-none (ltb n (f .heard)) (deaf (f .phase)) (rw e at h)
 
-    pub bytes-more : (g : Given) → r ≤ 0 → NoMessage u → NoHeartbeat u → g ≡ answered 3 f → outOf g x ≡ outcome (stateOf f x) (Arrive s n)
+    bytes-more : (g : Given) → r ≤ 0 → u ≡ unit.More → g ≡ answered 3 f → outOf g x ≡ outcome (stateOf f x) (Arrive s n)
     unfolding outcome handed first tests lineTests timeOf news cutFrom arrives lacksNeed isTooLong isMore number act droppedOn usedOf
-    bytes-more g h c d l = rw (← v, is-more u c d, heard-now h .0, heard-now h .1, l)
+    bytes-more g h c l = rw (← v, c, heard-now h .0, heard-now h .1, l)
 
-    pub bytes-quiet : (y : Feed) (g k : Given) → r ≤ 0 → u ≡ unit.Heartbeat → y ≡ heardAt n f → g ≡ answered 0 y → k ≡ usedIs (cond (accepted (g .answer)) 20 0) g
+    bytes-quiet : (y : Feed) (g k : Given) → r ≤ 0 → u ≡ unit.Heartbeat → y ≡ heardAt n f → g ≡ answered 0 y → k ≡ usedIs (cond (accepted (g .answer)) 20 0) g
         → outOf k x ≡ outcome (stateOf f x) (Arrive s n)
     unfolding outcome handed first tests lineTests tableTests timeOf news cutFrom onMessage arrives lacksNeed isTooLong isMore number act droppedOn newsDrops taken usedOf offered newsSize
     bytes-quiet y g k h c a l w = rw (← v, c, heard-now h .0, heard-now h .1, w, l, a)
+
+  -- by the answer to what is no message
+  refused-is : (a : ℕ) → a ≡ unmet f n u → 0 < refusal f n → a ≡ refusal f n
+  refused-is a e d = e ∙ rw (lt-ltb 0 (refusal f n) d)
+
+  beats-is : (a : ℕ) (w : Unit) → a ≡ unmet f n u → (0 < refusal f n → ⊥) → u ≡ w → a ≡ beats w
+  beats-is a w e d q = e ∙ rw (le-ltb 0 (refusal f n) (omega arith), q)
+
+  pub bytes-beat : (a : ℕ) (y : Feed) (g k : Given) → a ≡ unmet f n u → a ≡ 0 → y ≡ heardAt n f → g ≡ answered 0 y → k ≡ usedIs (cond (accepted (g .answer)) 20 0) g
+      → outOf k x ≡ outcome (stateOf f x) (Arrive s n)
+  unfolding beats
+  bytes-beat a y g k e z p l w = by (decLt 0 (refusal f n)) u refl
+    where
+      by : Dec (0 < refusal f n) → (w : Unit) → u ≡ w → outOf k x ≡ outcome (stateOf f x) (Arrive s n)
+      by (yes d) c q = absurd (let b : ⊥ = omega (arith, refused-is a e d, z, d) in b)
+      by (no d) unit.More q = absurd (let b : ⊥ = omega (arith, beats-is a unit.More e d q, z) in b)
+      by (no d) unit.Heartbeat q = bytes-quiet (refusal f n) refl y g k (omega arith) q p l w
+      by (no d) (unit.Message r i c) q = absurd (let b : ⊥ = omega (arith, beats-is a (unit.Message r i c) e d q, z) in b)
+
+  pub bytes-unmet : (a : ℕ) (g : Given) → a ≡ unmet f n u → NoMessage u → (a ≡ 0 → ⊥) → g ≡ answered a f → outOf g x ≡ outcome (stateOf f x) (Arrive s n)
+  unfolding beats
+  bytes-unmet a g e m z l = by (decLt 0 (refusal f n)) u refl
+    where
+      by : Dec (0 < refusal f n) → (w : Unit) → u ≡ w → outOf g x ≡ outcome (stateOf f x) (Arrive s n)
+      by (yes d) w q = bytes-refused (refusal f n) refl g d (l ∙ ap (λ (b : ℕ). answered b f) (refused-is a e d))
+      by (no d) unit.More q = bytes-more (refusal f n) refl g (omega arith) q (l ∙ ap (λ (b : ℕ). answered b f) (beats-is a unit.More e d q))
+      by (no d) unit.Heartbeat q = absurd (z (beats-is a unit.Heartbeat e d q))
+      by (no d) (unit.Message r i c) q = absurd (Run.miss (0 ∷ 1 ∷ []) 2 tt (subst NoMessage q m))
 
   pub bytes-message : (q i size used : ℕ) (g k : Given) (w : Tables) (p : List ℕ) → u ≡ unit.Message q i size → used ≡ 20 + size → p ≡ messageIn s size
       → outOf g w ≡ outcome (stateOf f x) (Cut q i p n) → k ≡ usedIs (cond (accepted (g .answer)) used 0) g
@@ -405,9 +447,11 @@ pub ruleset rows = (
   cut-spoilt,
   cut-seen,
   cut-met,
-  bytes-refused,
-  bytes-more,
-  bytes-quiet,
+  unmet-refused,
+  unmet-beat,
+  unmet-more,
+  bytes-beat,
+  bytes-unmet,
   bytes-message,
   sum-fits,
   overrun-refused,

@@ -17,7 +17,7 @@ ghost use Rattle.feed.specs.Events.{clearedTables, Cut};
 ghost use Rattle.feed.specs.Contracts.{ArriveSays, CutSays, OverrunSays};
 ghost use Rattle.feed.specs.Answers.{lastSeqNum};
 ghost use Rattle.feed.specs.Steps.{advanced as advancedAt, counted, accepted, lent, stateOf, outOf};
-ghost use Rattle.feed.specs.Code.Judging.{answered, onTables};
+ghost use Rattle.feed.specs.Code.Judging.{answered, onTables, unmet as unmetBy};
 
 // Every slot of both tables emptied.
 fn clear(books: &mut [u64], strips: &mut [u64])
@@ -96,6 +96,20 @@ impl Feed {
         }
     }
 
+    // The answer to a unit that is no message: 10, 11, 0 for a heartbeat, and else 3.
+    fn unmet(self, unit: Unit, time: u64) -> u64
+        ensures { λ r. ⌜ r ≡ unmetBy self time unit ⌝ }
+    {
+        let refused = self.refusal(time);
+        if 0 < refused {
+            return refused;
+        }
+        if let Unit::Heartbeat = unit {
+            return 0;
+        }
+        3
+    }
+
     // An arrival of bytes.
     pub fn arrive(self, books: &mut [u64], strips: &mut [u64], bytes: &[u8], time: u64) -> Given
         ensures { λ r. ⌜ ArriveSays self (lent (now (books .entry)) (now (strips .entry))) (now (bytes .entry)) time r (lent (now (books .exit)) (now (strips .exit))) ⌝ }
@@ -108,14 +122,11 @@ impl Feed {
             size,
         } = unit
         else {
-            let refused = self.refusal(time);
-            if 0 < refused {
-                return self.kept(refused);
-            }
-            if let Unit::Heartbeat = unit {
+            let answer = self.unmet(unit, time);
+            if answer == 0 {
                 return self.heard_at(time).kept(0).using(wire::HEADER_BYTES);
             }
-            return self.kept(3);
+            return self.kept(answer);
         };
         let used = wire::HEADER_BYTES + size;
         let message = front.message(bytes, size);

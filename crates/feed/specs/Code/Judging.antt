@@ -3,6 +3,8 @@ use Prim.Native.Nat.{ℕ}
 use mathlib.Core.Bool.{Bool, cond}
 use lib.Dec.{ltb}
 use Rattle.ground.specs.Choice.{first}
+use Rattle.wire.specs.declared.Unit.{Unit}
+use Rattle.wire.specs.declared.Unit.the-variants as unit
 use Rattle.feed.specs.Feeds.{deaf}
 use Rattle.feed.specs.Events.{Tables, clearedTables, State, Event, timeOf, News, news}
 use Rattle.feed.specs.Answers.{lineTests, tableTests}
@@ -19,6 +21,15 @@ verdict f time n = first (lineTests f time n) (Take 0)
 -- 10 and 11 of an arrival, and 0 where it gets neither
 abbrev pub refusal : Feed → ℕ → ℕ
 refusal f time = cond (ltb time (f .heard)) 10 (cond (deaf (f .phase)) 11 0)
+
+-- the answer to a unit that is no message: 10, 11, 0 for a heartbeat, and else 3
+unfoldable pub beats : Unit → ℕ
+beats unit.More = 3
+beats unit.Heartbeat = 0
+beats (unit.Message seq internal size) = 3
+
+abbrev pub unmet : Feed → ℕ → Unit → ℕ
+unmet f time u = cond (ltb 0 (refusal f time)) (refusal f time) (beats u)
 
 -- the tables as they are left, cleared or not
 abbrev pub clearedIf : Bool → Tables → Tables
