@@ -31,7 +31,7 @@ extern "C" {
 #endif
 
 /* The request that last changed the shape of a call or a struct: what mmdh_version() of the same archive gives. */
-#define MMDH_VERSION 2
+#define MMDH_VERSION 6
 
 /* Words of one book, and of one strip. */
 #define MMDH_BOOK_WORDS 64
@@ -104,19 +104,25 @@ typedef struct {
     uint64_t fresh;
 } MmdhFeed;
 
-/* What a call hands back. */
+/* What a call hands back. dropped is how many rows the entries of a book message pushed out: a new level that meets ten rows
+   of its side, at whatever rank, drops the old tenth. Each entry meets the book as those before it left it, and a delete or a
+   clear behind it takes none back. It is 0 unless a book message was taken, and from mmdh_new and mmdh_connect. Which rows they
+   were is not told, as there may be several: who wants to show them keeps the tenth rows that were read before the call. */
 typedef struct {
     uint64_t answer;
     uint64_t used;
     MmdhFeed feed;
+    uint64_t dropped;
 } MmdhGiven;
 
-/* What a frame hands back: the last answer, how many units were accepted, the bytes that they used, and the feed after them. */
+/* What a frame hands back: the last answer, how many units were accepted, the bytes that they used, the feed after them, and the
+   rows that they dropped, also where the last unit was refused. */
 typedef struct {
     uint64_t answer;
     uint64_t accepted;
     uint64_t used;
     MmdhFeed feed;
+    uint64_t dropped;
 } MmdhFrame;
 
 /* A line: a feed whose bytes come in scraps. The first held bytes of the holding buffer wait for the rest of their unit. dropping: 0
@@ -135,13 +141,16 @@ typedef struct {
 
 /* What a scrap hands back. said is 1 where answer is the last unit's: 0, 1 or 2 where the allowed number was reached, else the
    refusal. said is 0, and so is answer, where what is left of the scrap waits or is dropped. accepted counts the units accepted
-   with 0, 1 or 2, used the bytes of the scrap: all of them, unless the allowed number was reached first. */
+   with 0, 1 or 2, used the bytes of the scrap: all of them, unless the allowed number was reached first. dropped counts rows, as
+   in MmdhGiven: those that the accepted units pushed out, also where the last one was refused. Bytes that the line drops are
+   no part of it. */
 typedef struct {
     uint64_t said;
     uint64_t answer;
     uint64_t accepted;
     uint64_t used;
     MmdhLine line;
+    uint64_t dropped;
 } MmdhHeard;
 
 /* A row: price in thousandths, as sent. With an answer other than 0 the rest is 0. */
@@ -199,7 +208,8 @@ MmdhGiven mmdh_arrive(MmdhFeed feed, uint64_t *books, size_t books_len, uint64_t
 /* A whole frame's units at once, at most as many as are allowed: what mmdh_arrive does at that time with the unit at the front, then
    with the next one, until the allowed number is accepted (0, 1 or 2, heartbeats too), or bytes are missing (3), or a unit is
    refused. The answer is the last unit's; what is not accepted uses no bytes and is not counted, and what was accepted before it
-   stays. Any number may be allowed; with 0 the answer is 0, nothing is looked at, and the feed comes back as it was handed in. */
+   stays, with the rows that it dropped. Any number may be allowed; with 0 the answer is 0, nothing is looked at, and the feed
+   comes back as it was handed in. */
 MmdhFrame mmdh_arrive_frame(MmdhFeed feed, uint64_t *books, size_t books_len, uint64_t *strips, size_t strips_len,
                             const uint8_t *bytes, size_t bytes_len, uint64_t allowed, uint64_t time);
 

@@ -1,5 +1,6 @@
 /* include/mmdh.h as a C program meets it: its version, example 10's three units through the archive, one by one, as a frame and in
-   scraps, the row and the sides they leave, an emptied book, a strip of every type, the badge and every reason. */
+   scraps, the row and the sides they leave, an emptied book, rows that fall off a full side, a strip of every type, the badge and
+   every reason. */
 #include <stddef.h>
 #include <stdio.h>
 #include <string.h>
@@ -140,6 +141,109 @@ static void emptied(void) {
     expect("it is there, without rows", mmdh_read_side(table, 129, 700, 0).answer == 0 && mmdh_read_side(table, 129, 700, 0).count == 0);
 }
 
+/* An entry of 24 bytes: a price of one byte, a side, a level and an action. */
+static void put_entry(uint8_t *at, uint8_t price, uint8_t side, uint8_t level, uint8_t action) {
+    memset(at, 0, 24);
+    at[0] = 1;
+    at[8] = price;
+    at[12] = 1;
+    at[16] = side;
+    at[18] = level;
+    at[19] = action;
+}
+
+/* Header and message of so many entries for code 700; its length. */
+static size_t put_unit(uint8_t *at, uint8_t seq, const uint8_t *entries, uint8_t count) {
+    size_t size = 12 + 24 * (size_t)count;
+    memset(at, 0, 20 + 12);
+    at[0] = (uint8_t)(20 + size);
+    at[1] = (uint8_t)((20 + size) >> 8);
+    at[4] = seq;
+    at[8] = seq;
+    at[20] = (uint8_t)size;
+    at[21] = (uint8_t)(size >> 8);
+    at[22] = 53;
+    at[24] = 0xBC;
+    at[25] = 2;
+    at[31] = count;
+    memcpy(at + 32, entries, 24 * (size_t)count);
+    return 20 + size;
+}
+
+/* New levels that meet nine rows and ten: how many rows are dropped, by every call. The bids are 100, 90 .. and the offers 110, 120 .. */
+static void dropped(void) {
+    static uint64_t table[MMDH_BOOK_WORDS], own[MMDH_BOOK_WORDS];
+    static uint8_t bytes[4096], hold[512];
+    uint8_t entries[4 * 24];
+    MmdhFeed live = {MMDH_LIVE, 3, 0, 5, 1000, 1, 1};
+    expect("the layout of what a call hands back", sizeof(MmdhGiven) == 80 && offsetof(MmdhGiven, used) == 8 &&
+                                                      offsetof(MmdhGiven, feed) == 16 && offsetof(MmdhGiven, dropped) == 72);
+    expect("no row from a new feed or a connect", mmdh_new(1000).dropped == 0 && mmdh_new(0).dropped == 0 && mmdh_connect(live, 0, 6).dropped == 0 &&
+                                                      mmdh_connect(live, 0, 4).dropped == 0 && mmdh_connect(live, 1, 6).dropped == 0);
+    for (uint64_t rows = 9; rows <= 10; rows++) {
+        memset(table, 0, sizeof table);
+        table[0] = 700;
+        table[1] = table[2] = rows;
+        for (size_t k = 0; k < rows; k++) {
+            uint64_t bid[3] = {2147483648u + 100 - 10 * k, 1, 1}, offer[3] = {2147483648u + 110 + 10 * k, 1, 1};
+            memcpy(table + 4 + 3 * k, bid, sizeof bid);
+            memcpy(table + 34 + 3 * k, offer, sizeof offer);
+        }
+        for (uint8_t side = 0; side <= 1; side++) {
+            for (uint8_t level = 1; level <= 9; level += 4) {
+                put_entry(entries, (uint8_t)(side ? 110 + 10 * (level - 1) - 5 : 100 - 10 * (level - 1) + 5), side, level, 0);
+                size_t n = put_unit(bytes, 3, entries, 1);
+                memcpy(own, table, sizeof own);
+                MmdhGiven given = mmdh_arrive(live, own, 64, NULL, 0, bytes, n, 6);
+                expect("the tenth row goes where there are ten", given.answer == MMDH_TAKEN && given.dropped == (rows == 10));
+                memcpy(own, table, sizeof own);
+                expect("cut", mmdh_arrive_cut(live, own, 64, NULL, 0, 3, 3, bytes + 20, n - 20, 6).dropped == (rows == 10));
+            }
+        }
+    }
+
+    /* two that drop with a delete between them; one that drops, then a clear; no entries */
+    size_t n = 0, ends[3];
+    put_entry(entries, 105, 0, 1, 0);
+    put_entry(entries + 24, 205, 1, 10, 2);
+    put_entry(entries + 48, 205, 1, 10, 0);
+    put_entry(entries + 72, 106, 0, 1, 0);
+    ends[0] = n += put_unit(bytes, 3, entries, 4);
+    put_entry(entries, 109, 1, 1, 0);
+    put_entry(entries + 24, 0, 9, 0, 74);
+    ends[1] = n += put_unit(bytes + n, 4, entries, 2);
+    ends[2] = n += put_unit(bytes + n, 5, entries, 0);
+    memcpy(own, table, sizeof own);
+    MmdhFrame frame = mmdh_arrive_frame(live, own, 64, NULL, 0, bytes, n, 3, 6);
+    expect("a frame has their sum", frame.answer == MMDH_TAKEN && frame.accepted == 3 && frame.used == ends[2] && frame.dropped == 3);
+    memcpy(own, table, sizeof own);
+    expect("one message has its own", mmdh_arrive(live, own, 64, NULL, 0, bytes, n, 6).dropped == 2);
+    expect("none allowed, none dropped", mmdh_arrive_frame(live, own, 64, NULL, 0, bytes, n, 0, 6).dropped == 0);
+    /* one that drops, then one that does not fit: by itself, and behind the first message */
+    put_entry(entries, 107, 0, 1, 0);
+    put_entry(entries + 24, 107, 0, 1, 0);
+    size_t misfit = put_unit(bytes + 2048, 3, entries, 2);
+    memcpy(own, table, sizeof own);
+    MmdhGiven refused = mmdh_arrive(live, own, 64, NULL, 0, bytes + 2048, misfit, 6);
+    expect("none of a message that does not fit", refused.answer == MMDH_MISFIT && refused.dropped == 0 && memcmp(own, table, sizeof own) == 0);
+    memmove(bytes + ends[0], bytes + 2048, misfit);
+    bytes[ends[0] + 4] = bytes[ends[0] + 8] = 4;
+    n = ends[0] + misfit;
+    frame = mmdh_arrive_frame(live, own, 64, NULL, 0, bytes, n, 9, 6);
+    expect("the sum also before a refusal", frame.answer == MMDH_MISFIT && frame.accepted == 1 && frame.dropped == 2);
+
+    int good = 1;
+    for (size_t at = 0; at <= n; at++) {
+        MmdhLine line = {live, 0, 0};
+        memcpy(own, table, sizeof own);
+        MmdhHeard first = mmdh_line_scrap(line, own, 64, NULL, 0, hold, sizeof hold, bytes, at, UINT64_MAX, 6);
+        MmdhHeard second = mmdh_line_scrap(first.line, own, 64, NULL, 0, hold, sizeof hold, bytes + at, n - at, UINT64_MAX, 6);
+        good = good && first.dropped == (at >= ends[0] ? 2 : 0) && first.dropped + second.dropped == 2;
+        good = good && mmdh_line_scrap(second.line, own, 64, NULL, 0, hold, sizeof hold, bytes, n, 9, 6).dropped == 0;
+    }
+    expect("scraps have it in any cutting, and none while they are dropped", good);
+}
+
 /* A message of each type that goes to the strips, the words it leaves, and what is read of them. Books beside them are not
    looked at: there are none. */
 static void strips(void) {
@@ -193,8 +297,8 @@ static void frames(MmdhFeed open, const uint8_t *bytes, size_t n, const uint64_t
     static uint64_t own[2 * MMDH_BOOK_WORDS + 1], own_strips[MMDH_STRIP_WORDS + 1], clean[2 * MMDH_BOOK_WORDS + 1];
     static uint8_t line[2 * 4096 + 20];
     static const MmdhFeed odd = {9, 3, 0, 5000, 0, 7, 2};
-    expect("the layout of a frame", sizeof(MmdhFrame) == 80 && offsetof(MmdhFrame, answer) == 0 && offsetof(MmdhFrame, accepted) == 8 &&
-                                        offsetof(MmdhFrame, used) == 16 && offsetof(MmdhFrame, feed) == 24);
+    expect("the layout of a frame", sizeof(MmdhFrame) == 88 && offsetof(MmdhFrame, answer) == 0 && offsetof(MmdhFrame, accepted) == 8 &&
+                                        offsetof(MmdhFrame, used) == 16 && offsetof(MmdhFrame, feed) == 24 && offsetof(MmdhFrame, dropped) == 80);
     own[128] = clean[128] = own_strips[0] = own_strips[12] = 77;
     MmdhFrame frame = mmdh_arrive_frame(odd, own, 129, own_strips, 13, bytes, n, 0, 4);
     expect("nothing allowed: 0, and no unit", frame.answer == MMDH_TAKEN && frame.accepted == 0 && frame.used == 0);
@@ -260,8 +364,8 @@ static void scraps(const uint8_t *bytes, size_t n, const uint64_t *books) {
     own[128] = own_strips[12] = 77;
     expect("the layout of a line", sizeof(MmdhLine) == 72 && offsetof(MmdhLine, held) == 56 && offsetof(MmdhLine, dropping) == 64);
     expect("the layout of what a connect of it hands back", sizeof(MmdhLinked) == 80 && offsetof(MmdhLinked, line) == 8);
-    expect("the layout of what a scrap hands back", sizeof(MmdhHeard) == 104 && offsetof(MmdhHeard, answer) == 8 && offsetof(MmdhHeard, accepted) == 16 &&
-                                                       offsetof(MmdhHeard, used) == 24 && offsetof(MmdhHeard, line) == 32);
+    expect("the layout of what a scrap hands back", sizeof(MmdhHeard) == 112 && offsetof(MmdhHeard, answer) == 8 && offsetof(MmdhHeard, accepted) == 16 &&
+                                                       offsetof(MmdhHeard, used) == 24 && offsetof(MmdhHeard, line) == 32 && offsetof(MmdhHeard, dropped) == 104);
 
     MmdhLine line = {mmdh_new(1000).feed, 0, 0}, before = line;
     expect("resuming before the buffer", mmdh_line_connect(line, hold, 21, 1, 5).answer == MMDH_CANNOT_RESUME);
@@ -371,6 +475,7 @@ int main(int argc, char **argv) {
     scraps(bytes, n, table);
     sides();
     emptied();
+    dropped();
     strips();
 
     reasons();
