@@ -74,10 +74,17 @@ pub struct Course {
     ends: Vec<usize>,
 }
 
+/// How many messages a walk took, and how many rows they dropped.
+#[derive(Clone, Copy, PartialEq, Eq, Default)]
+pub struct Walked {
+    pub taken: usize,
+    pub dropped: u64,
+}
+
 /// Where a walk ended.
 #[derive(PartialEq, Eq)]
 pub struct End {
-    pub taken: usize,
+    pub walked: Walked,
     tables: Tables,
 }
 
@@ -144,23 +151,23 @@ impl Course {
 
     pub fn end(&self, walker: Walker, way: Way) -> End {
         let mut tables = self.tables();
-        let taken = self.walk(walker, way, &mut tables, self.messages);
-        End { taken, tables }
+        let walked = self.walk(walker, way, &mut tables, self.messages);
+        End { walked, tables }
     }
 
     /// Where the library ends in scraps.
     pub fn end_in(&self, scraps: Scraps) -> End {
         let mut tables = self.tables();
-        let taken = self.walk_in(scraps, &mut tables);
-        End { taken, tables }
+        let walked = self.walk_in(scraps, &mut tables);
+        End { walked, tables }
     }
 
-    /// All messages by the library's line; how many were taken.
+    /// All messages by the library's line.
     #[inline(never)]
-    pub fn walk_in(&self, scraps: Scraps, tables: &mut Tables) -> usize {
+    pub fn walk_in(&self, scraps: Scraps, tables: &mut Tables) -> Walked {
         let mut line = MmdhLine { feed: LIVE, held: 0, dropping: 0 };
         let mut hold = vec![0; LONGEST];
-        let (mut from, mut taken) = (0, 0);
+        let (mut from, mut walked) = (0, Walked::default());
         for &end in &self.ends {
             let message = &self.stream[from..end];
             let torn = match scraps {
@@ -172,14 +179,15 @@ impl Course {
             }
             let heard = raw::line_scrap(line, tables.lend(), &mut hold, &message[torn..], u64::MAX, 1);
             line = heard.line;
-            taken += heard.accepted as usize;
+            walked.taken += heard.accepted as usize;
+            walked.dropped += heard.dropped;
             from = end;
         }
-        taken
+        walked
     }
 
-    /// The first messages; how many were taken.
-    pub fn walk(&self, walker: Walker, way: Way, tables: &mut Tables, messages: usize) -> usize {
+    /// The first messages.
+    pub fn walk(&self, walker: Walker, way: Way, tables: &mut Tables, messages: usize) -> Walked {
         match (walker, way) {
             (Walker::Library, Way::Single) => self.walk_library(tables, messages),
             (Walker::Plain, Way::Single) => self.walk_plain(tables, messages),
@@ -191,83 +199,86 @@ impl Course {
     }
 
     #[inline(never)]
-    fn frames_library(&self, tables: &mut Tables, messages: usize) -> usize {
+    fn frames_library(&self, tables: &mut Tables, messages: usize) -> Walked {
         let mut feed = LIVE;
         self.in_frames(messages, |bytes, allowed| {
             let frame = raw::arrive_frame(feed, tables.lend(), bytes, allowed, 1);
             feed = frame.feed;
-            Some(frame.used).filter(|_| (frame.answer, frame.accepted) == (0, allowed))
+            Some((frame.used, frame.dropped)).filter(|_| (frame.answer, frame.accepted) == (0, allowed))
         })
     }
 
     #[inline(never)]
-    fn frames_of(&self, arrive: ArriveFrame, tables: &mut Tables, messages: usize) -> usize {
+    fn frames_of(&self, arrive: ArriveFrame, tables: &mut Tables, messages: usize) -> Walked {
         let mut feed = live();
         self.in_frames(messages, |bytes, allowed| {
             let frame = arrive(feed, tables.lend_twin(), bytes, allowed, 1);
             feed = frame.feed;
-            Some(frame.used).filter(|_| (frame.answer, frame.accepted) == (Answer::Taken, allowed))
+            Some((frame.used, frame.dropped)).filter(|_| (frame.answer, frame.accepted) == (Answer::Taken, allowed))
         })
     }
 
-    /// The first messages by a call for each frame, which tells the bytes used where all that are allowed were taken; how
-    /// many were.
+    /// The first messages by a call for each frame, which tells the bytes used and the rows dropped where all that are allowed
+    /// were taken.
     #[inline(always)]
-    fn in_frames(&self, messages: usize, mut call: impl FnMut(&[u8], u64) -> Option<u64>) -> usize {
-        let (mut at, mut taken) = (0, 0);
-        while taken < messages {
-            let allowed = FRAME.min(messages - taken);
+    fn in_frames(&self, messages: usize, mut call: impl FnMut(&[u8], u64) -> Option<(u64, u64)>) -> Walked {
+        let (mut at, mut walked) = (0, Walked::default());
+        while walked.taken < messages {
+            let allowed = FRAME.min(messages - walked.taken);
             match call(&self.stream[at..], allowed as u64) {
-                Some(used) => at += used as usize,
+                Some((used, dropped)) => {
+                    at += used as usize;
+                    walked.dropped += dropped;
+                }
                 None => break,
             }
-            taken += allowed;
+            walked.taken += allowed;
         }
-        taken
+        walked
     }
 
     #[inline(never)]
-    fn walk_library(&self, tables: &mut Tables, messages: usize) -> usize {
-        let mut feed = LIVE;
-        let mut at = 0;
+    fn walk_library(&self, tables: &mut Tables, messages: usize) -> Walked {
+        let (mut feed, mut at, mut dropped) = (LIVE, 0, 0);
         for taken in 0..messages {
             let given = raw::arrive(feed, tables.lend(), &self.stream[at..], 1);
             if given.answer != 0 {
-                return taken;
+                return Walked { taken, dropped };
             }
             at += given.used as usize;
+            dropped += given.dropped;
             feed = given.feed;
         }
-        messages
+        Walked { taken: messages, dropped }
     }
 
     #[inline(never)]
-    fn walk_plain(&self, tables: &mut Tables, messages: usize) -> usize {
-        let mut feed = live();
-        let mut at = 0;
+    fn walk_plain(&self, tables: &mut Tables, messages: usize) -> Walked {
+        let (mut feed, mut at, mut dropped) = (live(), 0, 0);
         for taken in 0..messages {
             let given = twin::arrive(feed, tables.lend_twin(), &self.stream[at..], 1);
             if given.answer != Answer::Taken {
-                return taken;
+                return Walked { taken, dropped };
             }
             at += given.used as usize;
+            dropped += given.dropped;
             feed = given.feed;
         }
-        messages
+        Walked { taken: messages, dropped }
     }
 
     #[inline(never)]
-    fn walk_tuned(&self, tables: &mut Tables, messages: usize) -> usize {
-        let mut feed = live();
-        let mut at = 0;
+    fn walk_tuned(&self, tables: &mut Tables, messages: usize) -> Walked {
+        let (mut feed, mut at, mut dropped) = (live(), 0, 0);
         for taken in 0..messages {
-            let (answer, used) = twin::tuned::arrive(&mut feed, tables.lend_twin(), &self.stream[at..], 1);
-            if answer != Answer::Taken {
-                return taken;
+            let arrival = twin::tuned::arrive(&mut feed, tables.lend_twin(), &self.stream[at..], 1);
+            if arrival.answer != Answer::Taken {
+                return Walked { taken, dropped };
             }
-            at += used as usize;
+            at += arrival.used as usize;
+            dropped += arrival.dropped;
         }
-        messages
+        Walked { taken: messages, dropped }
     }
 }
 

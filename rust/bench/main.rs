@@ -1,5 +1,5 @@
 //! Nanoseconds a message: single arrivals through the C calls, against the plain twin and the tuned one.
-//! 128 books, 2 to 4 entries a message, every message fits; all three must end with the same tables.
+//! 128 books, 2 to 4 entries a message, every message fits; all three must end with the same tables and as many rows dropped.
 //! The same for strip messages of all five types, over 128 strips, for frames of book messages against single calls, and for
 //! scraps, whole messages and torn ones. And microseconds a repaint of all their sides, by sides at once against single reads.
 
@@ -8,7 +8,7 @@
 mod course;
 mod repaint;
 
-use course::{Course, Scraps, Tables, Walker, Way, FRAME, SCRAPS, WALKERS, WAYS};
+use course::{Course, Scraps, Tables, Walked, Walker, Way, FRAME, SCRAPS, WALKERS, WAYS};
 use std::process::exit;
 use std::time::Instant;
 
@@ -24,7 +24,7 @@ const STRIPS: (usize, usize, usize) = (128, 10_000, 60);
 const COUNTED: usize = 1_500;
 
 /// One way to walk a course.
-type Walk<'a> = Box<dyn Fn(&mut Tables) -> usize + 'a>;
+type Walk<'a> = Box<dyn Fn(&mut Tables) -> Walked + 'a>;
 
 fn walk(course: &Course, walker: Walker, way: Way) -> Walk<'_> {
     Box::new(move |tables| course.walk(walker, way, tables, course.messages()))
@@ -50,37 +50,43 @@ fn measure<const N: usize>(course: &Course, walks: [Walk<'_>; N], passes: usize)
     best
 }
 
-/// All three end with the same tables, by single calls and by frames, every message taken; the library in scraps too.
-fn check(course: &Course) -> Result<(), String> {
+/// All three end with the same tables and as many rows dropped, by single calls and by frames, every message taken; the library
+/// in scraps too. How many rows that were.
+fn check(course: &Course) -> Result<u64, String> {
     let by_calls = WAYS.iter().flat_map(|&way| WALKERS.map(|walker| course.end(walker, way)));
     let ends: Vec<_> = by_calls.chain(SCRAPS.map(|scraps| course.end_in(scraps))).collect();
-    if ends.iter().any(|end| end.taken != course.messages()) {
+    if ends.iter().any(|end| end.walked.taken != course.messages()) {
         return Err(format!("{} slots: a message was not taken", course.slots()));
+    }
+    if ends.iter().any(|end| end.walked != ends[0].walked) {
+        let dropped: Vec<u64> = ends.iter().map(|end| end.walked.dropped).collect();
+        return Err(format!("{} slots: the rows dropped differ: {:?}", course.slots(), dropped));
     }
     if ends.iter().any(|end| end != &ends[0]) {
         return Err(format!("{} slots: the tables at the end differ", course.slots()));
     }
-    Ok(())
+    Ok(ends[0].walked.dropped)
 }
 
 fn short() -> Result<(), String> {
     for (slots, _, _) in COURSES {
         let course = Course::new(slots, 300);
-        check(&course)?;
-        let messages = course.messages();
-        println!("{:>5} slots: {} messages, {}", slots, messages, same());
+        let dropped = check(&course)?;
+        if dropped == 0 {
+            return Err(format!("{} slots: no row was dropped", slots));
+        }
+        println!("{:>5} slots: {} messages, {}", slots, course.messages(), same(dropped));
         println!("{:>5} slots: {} rows, the same by sides and by single reads", slots, repaint::check(&course)?);
     }
     let course = Course::strips(STRIPS.0, 300);
-    check(&course)?;
-    let messages = course.messages();
-    println!("{:>5} slots: {} strip messages, {}", STRIPS.0, messages, same());
+    let dropped = check(&course)?;
+    println!("{:>5} slots: {} strip messages, {}", STRIPS.0, course.messages(), same(dropped));
     Ok(())
 }
 
 /// What a check has found.
-fn same() -> String {
-    format!("the same tables three times, by frames of {}, and in scraps", FRAME)
+fn same(dropped: u64) -> String {
+    format!("the same tables and {} rows dropped three times, by frames of {}, and in scraps", dropped, FRAME)
 }
 
 fn full() -> Result<(), String> {

@@ -72,15 +72,18 @@ pub enum Connect {
     Resuming,
 }
 
-/// What an arrival of bytes comes to.
+/// What an arrival comes to, of bytes or of a message already cut.
 #[must_use]
 #[non_exhaustive]
 #[derive(Clone, Copy, PartialEq, Eq, Debug)]
 pub struct Arrival {
     /// The answer.
     pub answer: Answer,
-    /// Bytes used: go on behind them. 0 unless the answer is 0, 1 or 2.
+    /// Bytes used: go on behind them. 0 unless the answer is 0, 1 or 2, and of a message already cut.
     pub used: usize,
+    /// Rows of a full side that new levels in a book message pushed out: the old tenth row each time, as the entries before
+    /// left it. A delete or a clear behind it takes none back. 0 for all that is not a book message taken.
+    pub dropped: u64,
 }
 
 /// What a whole frame comes to.
@@ -95,6 +98,8 @@ pub struct Frame {
     pub accepted: u64,
     /// Bytes that they used: go on behind them.
     pub used: usize,
+    /// Rows that they pushed out, as [`Arrival::dropped`] has it, also where the frame ends in a refusal.
+    pub dropped: u64,
 }
 
 /// One feed: what is known of a line, and whether its books may be shown as live.
@@ -158,7 +163,7 @@ impl Feed {
     /// Works on the first unit in these bytes.
     pub fn arrive(&mut self, tables: &mut Tables<'_>, bytes: &[u8], time: u64) -> Arrival {
         let given = raw::arrive(self.plain, lent(tables), bytes, time);
-        Arrival { answer: self.after(given), used: given.used as usize }
+        self.arrival(given)
     }
 
     /// Works on a whole frame's units at once, at most as many as are allowed: what [`Feed::arrive`] does at this time with
@@ -193,19 +198,20 @@ impl Feed {
     pub fn arrive_frame(&mut self, tables: &mut Tables<'_>, bytes: &[u8], allowed: u64, time: u64) -> Frame {
         let given = raw::arrive_frame(self.plain, lent(tables), bytes, allowed, time);
         self.plain = given.feed;
-        Frame { answer: Answer::given(given.answer), accepted: given.accepted, used: given.used as usize }
+        let (answer, used) = (Answer::given(given.answer), given.used as usize);
+        Frame { answer, accepted: given.accepted, used, dropped: given.dropped }
     }
 
-    /// Works on a message already cut out, with the two numbers of its header.
+    /// Works on a message already cut out, with the two numbers of its header. No bytes are used.
     ///
     /// ```
     /// use mmdh::single::Feed;
     /// use mmdh::{Answer, Connect, Tables};
     /// let mut feed = Feed::new(1_000)?;
     /// let mut tables = Tables::with_slots(1);
-    /// assert_eq!(feed.arrive_cut(&mut tables, 1, 0, &[4, 0, 0x51, 4], 0), Answer::NotOpen);
+    /// assert_eq!(feed.arrive_cut(&mut tables, 1, 0, &[4, 0, 0x51, 4], 0).answer, Answer::NotOpen);
     /// assert_eq!(feed.connect(Connect::Fresh, 0), Answer::Taken);
-    /// assert_eq!(feed.arrive_cut(&mut tables, 1, 0, &[4, 0, 0x51, 4], 0), Answer::Taken);
+    /// assert_eq!(feed.arrive_cut(&mut tables, 1, 0, &[4, 0, 0x51, 4], 0).answer, Answer::Taken);
     /// # Ok::<(), mmdh::Refused>(())
     /// ```
     pub fn arrive_cut(
@@ -215,9 +221,9 @@ impl Feed {
         internal: u32,
         message: &[u8],
         time: u64,
-    ) -> Answer {
+    ) -> Arrival {
         let given = raw::arrive_cut(self.plain, lent(tables), seq, internal, message, time);
-        self.after(given)
+        self.arrival(given)
     }
 
     /// What the panel's corner shows at a time.
@@ -294,6 +300,10 @@ impl Feed {
     fn after(&mut self, given: MmdhGiven) -> Answer {
         self.plain = given.feed;
         Answer::given(given.answer)
+    }
+
+    fn arrival(&mut self, given: MmdhGiven) -> Arrival {
+        Arrival { answer: self.after(given), used: given.used as usize, dropped: given.dropped }
     }
 }
 

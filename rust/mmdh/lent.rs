@@ -20,6 +20,9 @@ pub struct Scrap {
     pub accepted: u64,
     /// Bytes used of the scrap: by units, by waiting, or dropped. All of them, but where the allowed number was reached.
     pub used: usize,
+    /// Rows that the accepted units pushed out, as [`Arrival::dropped`](crate::single::Arrival::dropped) has it, also where the
+    /// last unit was refused. Bytes that the line drops are another matter: they push out nothing.
+    pub dropped: u64,
 }
 
 /// One line without its tables and without its holding buffer: a feed, how many bytes wait at the buffer's front, and
@@ -92,7 +95,7 @@ impl LentLine {
         let heard = raw::line_scrap(self.plain(), lent(tables), hold, scrap, allowed, time);
         self.after(heard.line);
         let said = Some(heard.answer).filter(|_| heard.said != 0).map(Answer::given);
-        Scrap { said, accepted: heard.accepted, used: heard.used as usize }
+        Scrap { said, accepted: heard.accepted, used: heard.used as usize, dropped: heard.dropped }
     }
 
     /// The feed, to be looked at.

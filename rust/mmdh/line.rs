@@ -60,6 +60,7 @@ impl fmt::Debug for Hold {
 #[derive(Debug, Default)]
 struct Saw {
     units: u64,
+    dropped: u64,
     loss: Option<Loss>,
     closing: Option<Closing>,
     dropping: Option<Dropping>,
@@ -80,6 +81,9 @@ pub struct Heard {
     /// piece is dropped too; with 0 allowed it only waits, and the next call with a unit allowed drops it. Nothing more is
     /// taken, whatever the badge is: connect anew.
     pub dropping: bool,
+    /// Rows that new levels pushed out of full sides: each time the old tenth row, which is gone for good. Rows, not bytes:
+    /// `dropping` is another matter. Where a unit is refused, [`Line::dropped`] has what those before it pushed out.
+    pub dropped: u64,
 }
 
 /// One accepted unit, as [`Line::hear_each`] shows it.
@@ -98,6 +102,8 @@ pub struct Unit<'a> {
     pub books: &'a Books<'static>,
     /// The strips after it.
     pub strips: &'a Strips<'static>,
+    /// Rows that its entries pushed out; 0 of all but a book message that was taken.
+    pub dropped: u64,
 }
 
 impl Line {
@@ -220,8 +226,9 @@ impl Line {
                     None => return (used, scrap.said),
                     Some(answer) => {
                         let bytes = if held > 0 { &line.hold.0[..held + scrap.used] } else { &rest[..scrap.used] };
-                        let (number, feed, tables) = (line.saw.units, line.feed(), &line.tables);
-                        each(&Unit { answer, number, bytes, feed, books: &tables.books, strips: &tables.strips });
+                        let (number, feed, dropped) = (line.saw.units, line.feed(), scrap.dropped);
+                        let Tables { books, strips } = &line.tables;
+                        each(&Unit { answer, number, bytes, feed, books, strips, dropped });
                     }
                 }
             }
@@ -266,7 +273,7 @@ impl Line {
     where
         F: FnOnce(&mut Line, &[u8]) -> (usize, Option<Answer>),
     {
-        let before = self.saw.units;
+        let before = (self.saw.units, self.saw.dropped);
         let mut left = std::mem::take(&mut self.left);
         let said = if left.is_empty() {
             let (used, said) = work(self, bytes);
@@ -281,7 +288,12 @@ impl Line {
         self.left = left;
         match said.map(Answer::or_refused) {
             Some(Err(refused)) => Err(refused),
-            _ => Ok(Heard { units: self.saw.units - before, waiting: self.waiting(), dropping: self.is_dropping() }),
+            _ => Ok(Heard {
+                units: self.saw.units - before.0,
+                waiting: self.waiting(),
+                dropping: self.is_dropping(),
+                dropped: self.saw.dropped - before.1,
+            }),
         }
     }
 
@@ -289,6 +301,7 @@ impl Line {
     fn take(&mut self, scrap: &[u8], allowed: u64, time: u64) -> Scrap {
         let front = Front::of(&self.hold.0[..self.lent.held()], scrap);
         let came = self.lent.scrap(&mut self.tables, &mut self.hold.0, scrap, allowed, time);
+        self.saw.dropped += came.dropped;
         if came.accepted > 0 {
             self.accepted(came.accepted, || &front.unit(scrap, came.accepted - 1)[HEADER..], time);
         }
@@ -304,7 +317,8 @@ impl Line {
     /// with the answers of [`Line::hear`] but for 22: bytes that wait have no part in it, and its refusal does not make a line
     /// drop; where it loses the line, the next whole unit is 11. On a line whose bytes are dropped an accepted one is heard all
     /// the same, and the badge goes on being green. Take a connection's messages either in this way or as bytes: the promises
-    /// about runs are of lines fed by bytes, or of feeds fed by single calls, not of a mix.
+    /// about runs are of lines fed by bytes, or of feeds fed by single calls, not of a mix. Rows that it pushed out are counted
+    /// in [`Line::dropped`].
     ///
     /// ```
     /// use mmdh::{Answer, Badge, Connect, Line};
@@ -319,7 +333,9 @@ impl Line {
     /// ```
     pub fn hear_cut(&mut self, seq: u32, internal: u32, message: &[u8], time: u64) -> Result<Answer, Refused> {
         let expected = self.feed().next();
-        let heard = self.lent.feed.arrive_cut(&mut self.tables, seq, internal, message, time).or_refused();
+        let arrival = self.lent.feed.arrive_cut(&mut self.tables, seq, internal, message, time);
+        self.saw.dropped += arrival.dropped;
+        let heard = arrival.answer.or_refused();
         match heard {
             Ok(_) => self.accepted(1, || message, time),
             Err(refused) => self.refused(refused, (expected, seq), message, time),
@@ -431,6 +447,30 @@ impl Line {
     /// Units accepted since the last accepted connect, heartbeats too.
     pub fn units(&self) -> u64 {
         self.saw.units
+    }
+
+    /// Rows that new levels pushed out of full sides since the last accepted connect. Behind a refusal the difference to what
+    /// it was before the call is what the units before the refused one pushed out.
+    ///
+    /// ```
+    /// use mmdh::{Connect, Line};
+    /// let mut line = Line::new(1_000, 128)?;
+    /// line.connect(Connect::Fresh, 0)?;
+    /// line.hear_cut(1, 0, &[4, 0, 0x51, 4], 0)?;
+    /// line.hear_cut(2, 0, &[8, 0, 0x4E, 4, 0, 0, 0, 0], 0)?;
+    ///
+    /// // code 700, bids from the worst to the best, each a new level 1: the eleventh pushes out the first
+    /// for price in 1..=11 {
+    ///     let entry = [1, 0, 0, 0, 0, 0, 0, 0, price, 0, 0, 0, 1, 0, 0, 0, 0, 0, 1, 0, 0, 0, 0, 0];
+    ///     let message = [&[36, 0, 53, 0, 0xBC, 2, 0, 0, 0, 0, 0, 1][..], &entry].concat();
+    ///     line.hear_cut(2 + u32::from(price), u32::from(price), &message, 0)?;
+    ///     assert_eq!(line.dropped(), u64::from(price == 11));
+    /// }
+    /// assert_eq!(line.books().bids(700)?[9].price, 2);
+    /// # Ok::<(), mmdh::Refused>(())
+    /// ```
+    pub fn dropped(&self) -> u64 {
+        self.saw.dropped
     }
 
     /// Bytes that wait for the rest of their unit, or for the next frame.

@@ -33,6 +33,8 @@ pub struct MmdhGiven {
     pub used: u64,
     /// The feed after the call.
     pub feed: MmdhFeed,
+    /// Rows that the entries of a book message pushed out; 0 unless it was taken.
+    pub dropped: u64,
 }
 
 /// What a whole frame hands back.
@@ -47,6 +49,8 @@ pub struct MmdhFrame {
     pub used: u64,
     /// The feed after them.
     pub feed: MmdhFeed,
+    /// Rows that they pushed out, also where the frame ended in a refusal.
+    pub dropped: u64,
 }
 
 /// A feed whose bytes come in scraps. A new one is a new feed with 0 and 0.
@@ -85,6 +89,8 @@ pub struct MmdhHeard {
     pub used: u64,
     /// The line after it.
     pub line: MmdhLine,
+    /// Rows that the units accepted pushed out, also where the last one was refused.
+    pub dropped: u64,
 }
 
 /// What reading a row hands back.
@@ -102,7 +108,7 @@ pub struct MmdhRow {
 }
 
 /// The request that last changed the shape of a call or a struct; [`version`] gives the archive's.
-pub const VERSION: u64 = 2;
+pub const VERSION: u64 = 6;
 /// Words of one book.
 pub const BOOK_WORDS: usize = 64;
 /// Words of one strip.

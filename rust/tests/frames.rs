@@ -1,10 +1,11 @@
 //! Whole frames (request 3 of document 02): the library against the twin and against its own single calls. Where one ends and
 //! what it counts is said here too, for streams made by hand.
 
+use crate::fallen;
 use crate::pair::{plain_feed, twin_feed, Pair};
 use crate::scene::{self, SLOT, STRIP};
 use crate::tables::Tables;
-use crate::tally::{Meeting, Tally};
+use crate::tally::{Call, Meeting, Tally};
 use crate::told::{LIVE, TIME};
 use exchange::dice::Dice;
 use exchange::{book_message, imbalance, message, nominal, session, unit, Entry};
@@ -97,7 +98,7 @@ fn phases(pair: &mut Pair) {
                     for allowed in [0, 1, 2, 3, u64::MAX] {
                         let (given, _) = pair.frame(feed, &tables(), bytes, allowed, time);
                         let early = time < LIVE.heard;
-                        let untouched = MmdhFrame { answer: 0, accepted: 0, used: 0, feed };
+                        let untouched = MmdhFrame { answer: 0, accepted: 0, used: 0, feed, dropped: 0 };
                         match allowed {
                             0 => pair.tally.same(&given, &untouched, || format!("{:?} at {}", feed, time)),
                             _ => pair.tally.same(&(given.answer == 10), &early, || format!("10 at {}", time)),
@@ -235,6 +236,13 @@ pub fn single(pair: &mut Pair, dice: &mut Dice, tables: &Tables) {
     let (feed, bytes, allowed, time) = any(dice, tables);
     let (given, calls) = pair.frame(feed, tables, &bytes, allowed, time);
     note(&mut pair.tally, (feed, allowed, time), &bytes, &given, &calls);
+    falls(&mut pair.tally, (feed, tables), (&bytes, time), &given);
+}
+
+/// Notes what a frame pushed out of these tables, which must be what the rule has.
+pub fn falls(tally: &mut Tally, start: (MmdhFeed, &Tables), stream: (&[u8], u64), given: &MmdhFrame) {
+    let came = fallen::Came { answer: given.answer, accepted: given.accepted, dropped: given.dropped };
+    fallen::note_units(tally, Call::ArriveFrame, start, stream, came);
 }
 
 /// The same of the tuned twin against the plain one.

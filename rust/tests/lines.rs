@@ -1,6 +1,7 @@
 //! Scraps at random (request 5 of document 02): single ones on odd lines, any cutting against one piece and against single calls,
 //! and whole runs of a line.
 
+use crate::fallen;
 use crate::frames;
 use crate::history::{History, LIMIT};
 use crate::pair::{by_calls, Pair};
@@ -110,6 +111,7 @@ fn single(pair: &mut Pair, dice: &mut Dice, tables: &Tables) {
     let heard = pair.scrap(line, (tables, &hold), &bytes[waiting..end], allowed, time);
     let met = Met { line, room, bytes: &bytes[..end], allowed, time };
     met.note(&mut pair.tally, &heard);
+    met.falls(&mut pair.tally, tables, &heard);
     if dice.once_in(3) {
         pair.line_connect(line, &hold, dice.of(&[0, 0, 1, 1, 2, u64::MAX]), time);
     }
@@ -174,6 +176,12 @@ impl Met<'_> {
         }
     }
 
+    /// Notes what was pushed out of these tables, which must be what the rule has.
+    fn falls(&self, tally: &mut Tally, tables: &Tables, heard: &MmdhHeard) {
+        let came = fallen::Came { answer: heard.answer, accepted: heard.accepted, dropped: heard.dropped };
+        fallen::note_units(tally, Call::LineScrap, (self.line.feed, tables), (self.bytes, self.time), came);
+    }
+
     /// Notes the units that were accepted; how many bytes there are behind them.
     fn accepted(&self, tally: &mut Tally, heard: &MmdhHeard) -> usize {
         let mut at = 0;
@@ -235,21 +243,30 @@ fn call(stand: &mut Stand, scrap: &[u8], allowed: u64, time: u64) -> MmdhHeard {
     heard
 }
 
-/// A scrap unit by unit, at most so many: each answer, with the bytes of a unit that was accepted.
-fn by_units(stand: &mut Stand, scrap: &[u8], allowed: u64, time: u64) -> Vec<(u64, Vec<u8>)> {
-    let (mut units, mut rest): (Vec<(u64, Vec<u8>)>, &[u8]) = (Vec::new(), scrap);
+/// What became of a unit.
+struct Unit {
+    answer: u64,
+    dropped: u64,
+    /// Its bytes where it was accepted.
+    bytes: Vec<u8>,
+}
+
+/// A scrap unit by unit, at most so many.
+fn by_units(stand: &mut Stand, scrap: &[u8], allowed: u64, time: u64) -> Vec<Unit> {
+    let (mut units, mut rest): (Vec<Unit>, &[u8]) = (Vec::new(), scrap);
     while (units.len() as u64) < allowed {
         let held = stand.line.held as usize;
         let heard = call(stand, rest, 1, time);
-        let used = heard.used as usize;
-        match (heard.said, heard.answer) {
+        let (used, answer, dropped) = (heard.used as usize, heard.answer, heard.dropped);
+        let bytes = match (heard.said, answer) {
             (0, _) => break,
-            (_, answer @ 0..=2) if held > 0 => units.push((answer, stand.hold[..held + used].to_vec())),
-            (_, answer @ 0..=2) => units.push((answer, rest[..used].to_vec())),
-            (_, answer) => {
-                units.push((answer, Vec::new()));
-                break;
-            }
+            (_, 0..=2) if held > 0 => stand.hold[..held + used].to_vec(),
+            (_, 0..=2) => rest[..used].to_vec(),
+            _ => Vec::new(),
+        };
+        units.push(Unit { answer, dropped, bytes });
+        if answer > 2 {
+            break;
         }
         rest = &rest[used..];
     }
@@ -257,29 +274,38 @@ fn by_units(stand: &mut Stand, scrap: &[u8], allowed: u64, time: u64) -> Vec<(u6
 }
 
 /// The answers alone.
-fn answers(units: &[(u64, Vec<u8>)]) -> Vec<u64> {
-    units.iter().map(|unit| unit.0).collect()
+fn answers(units: &[Unit]) -> Vec<u64> {
+    units.iter().map(|unit| unit.answer).collect()
 }
 
-/// A stream in random scraps, some of them empty, unit by unit or all at once: answers and end as in one piece, and as single
-/// calls have it.
+/// The rows dropped by all of them.
+fn dropped(units: &[Unit]) -> u64 {
+    units.iter().map(|unit| unit.dropped).sum()
+}
+
+/// A stream in random scraps, some of them empty, unit by unit or all at once: answers, rows dropped and end as in one piece, and
+/// as single calls have it.
 fn cutting(pair: &mut Pair, dice: &mut Dice, tables: &Tables) {
     let (feed, bytes, _, time) = frames::any(dice, tables);
     let start = Stand::new(feed, tables.clone(), room(dice, &bytes));
     let mut whole = start.clone();
-    let in_one = answers(&by_units(&mut whole, &bytes, u64::MAX, time));
+    let units = by_units(&mut whole, &bytes, u64::MAX, time);
+    let (in_one, fell) = (answers(&units), dropped(&units));
     let held = whole.line.held as usize;
     let mut cut = start.clone();
-    let (mut in_scraps, mut accepted, mut rest) = (Vec::new(), 0, &bytes[..]);
+    let (mut in_scraps, mut accepted, mut fallen, mut rest) = (Vec::new(), 0, 0, &bytes[..]);
     let one_by_one = dice.once_in(2);
     let largest = dice.of(&[1, 7, 30, 200]);
     loop {
         let (scrap, after) = rest.split_at(dice.place(largest + 1).min(rest.len()));
         if one_by_one {
-            in_scraps.extend(answers(&by_units(&mut cut, scrap, u64::MAX, time)));
+            let units = by_units(&mut cut, scrap, u64::MAX, time);
+            in_scraps.extend(answers(&units));
+            fallen += dropped(&units);
         } else {
             let heard = call(&mut cut, scrap, u64::MAX, time);
             accepted += heard.accepted;
+            fallen += heard.dropped;
             in_scraps.extend(Some(heard.answer).filter(|_| heard.said == 1));
         }
         rest = after;
@@ -290,30 +316,33 @@ fn cutting(pair: &mut Pair, dice: &mut Dice, tables: &Tables) {
     let input = || format!("{:?} at {} with room for {}: {:02x?}", feed, time, start.hold.len(), bytes);
     let refused = in_one.last().copied().filter(|&answer| answer > 2);
     let wanted = if one_by_one { in_one.clone() } else { refused.into_iter().collect() };
-    pair.tally.same(&in_scraps, &wanted, input);
+    pair.tally.same(&(in_scraps, fallen), &(wanted, fell), input);
     let count = in_one.len() as u64 - refused.iter().count() as u64;
     pair.tally.holds(one_by_one || accepted == count, || format!("{} accepted: {}", accepted, input()));
     let same = cut.line == whole.line && cut.tables == whole.tables && cut.hold.get(..held) == whole.hold.get(..held);
     pair.tally.holds(same, || format!("{}\n  {:?} in scraps\n  {:?} in one", input(), cut.line, whole.line));
     if start.hold.len() >= SIZED {
-        let (said, end) = as_singles(&start, &bytes, time);
-        let same = in_one == said && whole.line == end.line && whole.tables == end.tables;
-        let ends = || format!("{:?} {:?}\n  {:?} {:?} by single calls", in_one, whole.line, said, end.line);
+        let (said, dropped, end) = as_singles(&start, &bytes, time);
+        let same = (&in_one, fell) == (&said, dropped) && whole.line == end.line && whole.tables == end.tables;
+        let ends = || {
+            let (one, singles) = ((&in_one, fell, whole.line), (&said, dropped, end.line));
+            format!("{:?}\n  {:?} by single calls", one, singles)
+        };
         pair.tally.holds(same, || format!("{}\n  {}", input(), ends()));
     }
 }
 
 /// Where a stream in one piece must end by single calls: but for 3, for 10 and 11 before a unit is finished, and for 22.
-fn as_singles(start: &Stand, bytes: &[u8], time: u64) -> (Vec<u64>, Stand) {
+fn as_singles(start: &Stand, bytes: &[u8], time: u64) -> (Vec<u64>, u64, Stand) {
     let mut end = start.clone();
     end.line.feed = plainly(end.line.feed);
-    let (room, mut said, mut at) = (start.hold.len(), Vec::new(), 0);
+    let (room, mut said, mut dropped, mut at) = (start.hold.len(), Vec::new(), 0, 0);
     loop {
         let rest = &bytes[at..];
         let due = front(rest, room);
         if due == Front::Torn {
             end.line.held = rest.len() as u64;
-            return (said, end);
+            return (said, dropped, end);
         }
         let before = end.clone();
         let (given, _) = by_calls(end.line.feed, &mut end.tables, rest, 1, time);
@@ -330,9 +359,10 @@ fn as_singles(start: &Stand, bytes: &[u8], time: u64) -> (Vec<u64>, Stand) {
                 end.line.feed.phase = 5;
             }
             end.line.dropping = 1;
-            return (said, end);
+            return (said, dropped, end);
         }
         at += given.used as usize;
+        dropped += given.dropped;
     }
 }
 
@@ -407,14 +437,17 @@ impl Run {
         let units = by_units(&mut by_one, &scrap, allowed, time);
         let heard = self.stand.scrap(pair, &scrap, allowed, time);
         let input = || format!("run: {:?} at {}, {} allowed\n  {:02x?}", before.line, time, allowed, scrap);
-        pair.tally.holds(self.stand == by_one, || format!("{}\n  {:?} {:?}", input(), self.stand.line, by_one.line));
+        let (got, wanted) = ((self.stand.line, heard.dropped), (by_one.line, dropped(&units)));
+        let same = self.stand == by_one && got == wanted;
+        pair.tally.holds(same, || format!("{}\n  {:?}\n  {:?}", input(), got, wanted));
         let waiting = before.hold.get(..before.line.held as usize).unwrap_or(&[]);
         let bytes = [waiting, &scrap].concat();
         let met = Met { line: before.line, room: before.hold.len(), bytes: &bytes, allowed, time };
         met.note(&mut pair.tally, &heard);
-        for (answer, unit) in &units {
-            let message = unit.get(HEADER..).unwrap_or(&[]);
-            self.history.arrive(Call::LineScrap, *answer, unit.len() as u64, message, time);
+        met.falls(&mut pair.tally, &before.tables, &heard);
+        for unit in &units {
+            let message = unit.bytes.get(HEADER..).unwrap_or(&[]);
+            self.history.arrive(Call::LineScrap, unit.answer, unit.bytes.len() as u64, message, time);
         }
         self.coming.drain(..heard.used as usize);
         runs::badges(pair, &self.stand.line.feed, &self.history, time);

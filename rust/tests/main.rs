@@ -1,5 +1,5 @@
 //! The library against the twin, call by call; the vectors, document 01's examples, quantities, emptied books, price strips,
-//! frames and scraps.
+//! frames, scraps and rows that fell off.
 //! The last line is 'N passed, M failed'.
 
 #![forbid(unsafe_code)]
@@ -7,6 +7,7 @@
 mod badges;
 mod emptied;
 mod examples;
+mod fallen;
 mod frames;
 mod grids;
 mod history;
@@ -77,6 +78,8 @@ fn main() {
     strips::check(&mut pair, &mut dice, options.rounds / 100);
     frames::check(&mut pair);
     scraps::check(&mut pair);
+    fallen::check(&mut pair, &mut dice, options.rounds / 100);
+    fallen::check_streams(&mut pair.tally, &inputs);
     grids::check(&mut pair, &mut dice);
     badges::check(&mut pair, &mut dice, options.rounds / 4);
     sides::check(&mut pair.tally, &mut dice, options.rounds / 1_000);

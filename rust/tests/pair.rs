@@ -1,5 +1,5 @@
-//! One call made twice: through the C calls and to the twin, then compared in answer, feed, bytes used and every word. A frame
-//! is made a third time, by single C calls. Of a scrap every byte of the holding buffer is compared too.
+//! One call made twice: through the C calls and to the twin, then compared in answer, feed, bytes used, rows dropped and every
+//! word. A frame is made a third time, by single C calls. Of a scrap every byte of the holding buffer is compared too.
 
 use crate::tables::{words, Tables};
 use crate::tally::{Call, Tally};
@@ -37,13 +37,15 @@ pub fn plain_feed(feed: Feed) -> MmdhFeed {
 
 /// The plain numbers of what the twin hands back.
 pub fn plain_given(given: Given) -> MmdhGiven {
-    MmdhGiven { answer: given.answer as u64, used: given.used, feed: plain_feed(given.feed) }
+    let feed = plain_feed(given.feed);
+    MmdhGiven { answer: given.answer as u64, used: given.used, feed, dropped: given.dropped }
 }
 
 /// The plain numbers of a frame; where no unit was allowed, the feed is the one handed in, its odd numbers too.
 pub fn plain_frame(frame: Frame, allowed: u64, handed: MmdhFeed) -> MmdhFrame {
     let feed = if allowed == 0 { handed } else { plain_feed(frame.feed) };
-    MmdhFrame { answer: frame.answer as u64, accepted: frame.accepted, used: frame.used, feed }
+    let (answer, accepted) = (frame.answer as u64, frame.accepted);
+    MmdhFrame { answer, accepted, used: frame.used, feed, dropped: frame.dropped }
 }
 
 /// The twin's line of plain numbers.
@@ -72,6 +74,7 @@ pub fn plain_heard(heard: Heard, allowed: u64, handed: MmdhLine) -> MmdhHeard {
         accepted: heard.accepted,
         used: heard.used,
         line: if untouched { handed } else { plain_line(heard.line) },
+        dropped: heard.dropped,
     }
 }
 
@@ -93,7 +96,8 @@ pub fn by_calls(
     }
     let answer = calls.last().map_or(0, |last| last.answer);
     let accepted = calls.iter().filter(|given| given.answer <= 2).count() as u64;
-    (MmdhFrame { answer, accepted, used: used as u64, feed: after }, calls)
+    let dropped = calls.iter().map(|given| given.dropped).sum();
+    (MmdhFrame { answer, accepted, used: used as u64, feed: after, dropped }, calls)
 }
 
 fn plain_row(read: Read) -> MmdhRow {
@@ -280,9 +284,9 @@ impl Pair {
     pub fn tuned(&mut self, feed: MmdhFeed, tables: &Tables, bytes: &[u8], time: u64) {
         self.copy(tables);
         let mut after = twin_feed(feed);
-        let (answer, used) = twin::tuned::arrive(&mut after, self.ours.lend_twin(), bytes, time);
+        let came = twin::tuned::arrive(&mut after, self.ours.lend_twin(), bytes, time);
         let twins = twin::arrive(twin_feed(feed), self.twins.lend_twin(), bytes, time);
-        let tuned = Given { answer, used, feed: after };
+        let tuned = Given { answer: came.answer, used: came.used, feed: after, dropped: came.dropped };
         let good = tuned == twins && self.ours == self.twins;
         self.tally
             .holds(good, || format!("tuned {:?} time {}\n  bytes {:02x?}\n  {}", feed, time, bytes, both(tables)));

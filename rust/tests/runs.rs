@@ -1,6 +1,7 @@
 //! Whole runs: many events on one feed and its tables, library and twin each going on with its own.
 
 use crate::emptied::meets;
+use crate::fallen;
 use crate::frames::{self, HEARTBEAT};
 use crate::history::{History, LIMIT};
 use crate::pair::{by_calls, plain_feed, plain_frame, plain_given, Pair};
@@ -65,6 +66,7 @@ impl Run {
         if dice.once_in(10) {
             let met = self.met(&message);
             let ours = raw::arrive_cut(self.feed, self.tables.lend(), seq, internal, &message, time);
+            fallen::note(&mut pair.tally, Call::ArriveCut, &self.twin_tables.books, &message, &ours);
             let twins = twin::arrive_cut(self.twin_feed, self.twin_tables.lend_twin(), seq, internal, &message, time);
             self.note(pair, met, &ours);
             return self.arrived(pair, Call::ArriveCut, ours, twins, &message, time);
@@ -72,6 +74,7 @@ impl Run {
         let message = bytes.get(20..).unwrap_or(&[]);
         let met = self.met(message);
         let ours = raw::arrive(self.feed, self.tables.lend(), &bytes, time);
+        fallen::note(&mut pair.tally, Call::Arrive, &self.twin_tables.books, message, &ours);
         let twins = twin::arrive(self.twin_feed, self.twin_tables.lend_twin(), &bytes, time);
         self.note(pair, met, &ours);
         self.arrived(pair, Call::Arrive, ours, twins, message, time);
@@ -87,6 +90,7 @@ impl Run {
         let mut by_singles = self.tables.clone();
         let (singles, calls) = by_calls(self.feed, &mut by_singles, &bytes, allowed, time);
         let ours = raw::arrive_frame(self.feed, self.tables.lend(), &bytes, allowed, time);
+        frames::falls(&mut pair.tally, (self.feed, &self.twin_tables), (&bytes, time), &ours);
         let twins = twin::arrive_frame(self.twin_feed, self.twin_tables.lend_twin(), &bytes, allowed, time);
         let input = || format!("run: frame of {} allowed at {}\n  {:02x?}", allowed, time, bytes);
         pair.tally.same(&(ours, &self.tables), &(singles, &by_singles), input);
@@ -159,7 +163,7 @@ pub fn replay(pair: &mut Pair, history: &History, tables: &Tables) {
     for message in &history.taken {
         let size = usize::from(u16::from_le_bytes([message[0], message[1]]));
         let fitted = match message[2] {
-            53 => twin::book::take(&mut replayed.books, &message[..size]),
+            53 => twin::book::take(&mut replayed.books, &message[..size]).map(|_| ()),
             _ => twin::strip::take(&mut replayed.strips, &message[..size]),
         };
         pair.tally.holds(fitted.is_ok(), || format!("a replayed message does not fit: {:02x?}", message));
@@ -262,8 +266,10 @@ pub fn check_market(pair: &mut Pair, units: u32) {
             1 => by_calls(feed, &mut tables, &bytes, count, time).0,
             _ => in_scraps(feed, &mut tables, &bytes, time, market.dice()),
         };
-        twins = twin::arrive_frame(twins, twin_tables.lend_twin(), &bytes, count, time).feed;
-        let wanted = MmdhFrame { answer: 0, accepted: count, used: bytes.len() as u64, feed: plain_feed(twins) };
+        let by_twin = twin::arrive_frame(twins, twin_tables.lend_twin(), &bytes, count, time);
+        twins = by_twin.feed;
+        let (used, dropped) = (bytes.len() as u64, by_twin.dropped);
+        let wanted = MmdhFrame { answer: 0, accepted: count, used, feed: plain_feed(twins), dropped };
         pair.tally.same(&given, &wanted, || format!("{} units to unit {}", count, number));
         feed = given.feed;
     }
@@ -273,16 +279,17 @@ pub fn check_market(pair: &mut Pair, units: u32) {
 /// All units in scraps of any length, told as a frame; its answer is how many bytes wait and whether any are dropped.
 fn in_scraps(feed: MmdhFeed, tables: &mut Tables, bytes: &[u8], time: u64, dice: &mut Dice) -> MmdhFrame {
     let (mut line, mut hold) = (MmdhLine { feed, held: 0, dropping: 0 }, [0; 600]);
-    let (mut accepted, mut used, mut at) = (0, 0, 0);
+    let (mut accepted, mut used, mut dropped, mut at) = (0, 0, 0, 0);
     while at < bytes.len() {
         let end = bytes.len().min(at + dice.place(200));
         let heard = raw::line_scrap(line, tables.lend(), &mut hold, &bytes[at..end], u64::MAX, time);
         line = heard.line;
         accepted += heard.accepted;
         used += heard.used;
+        dropped += heard.dropped;
         at = end;
     }
-    MmdhFrame { answer: line.held + line.dropping, accepted, used, feed: line.feed }
+    MmdhFrame { answer: line.held + line.dropping, accepted, used, feed: line.feed, dropped }
 }
 
 /// A message to some book or strip.

@@ -48,17 +48,18 @@ impl Stand {
     }
 
     /// A scrap in calls with so many units allowed, until nothing more is said or one is refused: the last answer of each call,
-    /// and how many units were accepted.
-    pub fn hear(&mut self, pair: &mut Pair, scrap: &[u8], allowed: u64, time: u64) -> (Vec<u64>, u64) {
-        let (mut answers, mut accepted, mut rest) = (Vec::new(), 0, scrap);
+    /// how many units were accepted, and how many rows were dropped.
+    pub fn hear(&mut self, pair: &mut Pair, scrap: &[u8], allowed: u64, time: u64) -> (Vec<u64>, u64, u64) {
+        let (mut answers, mut accepted, mut dropped, mut rest) = (Vec::new(), 0, 0, scrap);
         loop {
             let heard = self.scrap(pair, rest, allowed, time);
             accepted += heard.accepted;
+            dropped += heard.dropped;
             if heard.said == 1 {
                 answers.push(heard.answer);
             }
             if heard.said != 1 || heard.answer > 2 {
-                return (answers, accepted);
+                return (answers, accepted, dropped);
             }
             rest = &rest[heard.used as usize..];
         }
@@ -126,17 +127,17 @@ fn cuts(pair: &mut Pair) {
         let unit = if torn.is_empty() { &[][..] } else { &units[whole].1 };
         for allowed in [1, 2, u64::MAX] {
             let mut stand = start.clone();
-            let (mut all, mut accepted) = stand.hear(pair, &bytes[..at], allowed, TIME);
+            let (mut all, mut accepted, first) = stand.hear(pair, &bytes[..at], allowed, TIME);
             let waiting = (stand.line.held, stand.hold.clone());
             let wanted = (torn.len() as u64, clean_behind(torn, 60));
             pair.tally.same(&waiting, &wanted, || format!("what waits behind {} bytes", at));
             let nothing = stand.hear(pair, &[], allowed, TIME);
-            pair.tally.same(&nothing, &(vec![], 0), || format!("nothing behind {} bytes", at));
+            pair.tally.same(&nothing, &(vec![], 0, 0), || format!("nothing behind {} bytes", at));
             let rest = stand.hear(pair, &bytes[at..], allowed, TIME);
             all.extend(rest.0);
             accepted += rest.1;
-            let got = (accepted, if allowed == 1 { &all } else { &answers });
-            pair.tally.same(&got, &(answers.len() as u64, &answers), || format!("cut at {}", at));
+            let got = (accepted, first + rest.2, if allowed == 1 { &all } else { &answers });
+            pair.tally.same(&got, &(answers.len() as u64, 0, &answers), || format!("cut at {}", at));
             let wanted = Stand { line, tables: tables.clone(), hold: clean_behind(unit, 60) };
             pair.tally.same(&stand, &wanted, || format!("where it ends, cut at {}", at));
         }
@@ -148,7 +149,7 @@ fn byte_by_byte(pair: &mut Pair) {
     let (units, mut stand) = morning();
     for (answer, unit) in &units {
         for at in 0..unit.len() {
-            let (said, _) = stand.hear(pair, &unit[at..=at], 1, TIME);
+            let (said, ..) = stand.hear(pair, &unit[at..=at], 1, TIME);
             let wanted = if at + 1 == unit.len() { vec![*answer] } else { vec![] };
             pair.tally.same(&said, &wanted, || format!("byte {} of {:02x?}", at, unit));
             let nothing = stand.scrap(pair, &[], u64::MAX, TIME);
@@ -261,7 +262,7 @@ fn too_long_in_time(pair: &mut Pair) {
 fn behind_another(pair: &mut Pair, room: usize, size: usize, at: usize) {
     let stream = [unit(7, 41, &nominal(700, 9_740)), unit(8, 42, &message(60, size))].concat();
     let mut stand = Stand::new(LIVE, frames::tables(), room);
-    let (mut said, _) = stand.hear(pair, &stream[..at], 1, TIME);
+    let (mut said, ..) = stand.hear(pair, &stream[..at], 1, TIME);
     let last = if 20 + size > room { 22 } else { 2 };
     let known = if last == 22 { 32 + SIZED } else { stream.len() };
     let wanted = match at {
@@ -321,7 +322,7 @@ fn too_much(pair: &mut Pair, line: MmdhLine, room: u64, (scrap, time, answer): (
     let refused = MmdhLine { feed: MmdhFeed { phase, ..line.feed }, held: 0, dropping: 1 };
     let wanted = match (line.dropping, allowed) {
         (_, 0) => MmdhHeard { line, ..MmdhHeard::default() },
-        (0, _) => MmdhHeard { said: 1, answer, accepted: 0, used, line: refused },
+        (0, _) => MmdhHeard { said: 1, answer, accepted: 0, used, line: refused, dropped: 0 },
         _ => MmdhHeard { used, line, ..MmdhHeard::default() },
     };
     let input = || format!("{:?} at {}, buffer of {}, {} allowed", line, time, room, allowed);
@@ -365,11 +366,11 @@ fn in_phase(pair: &mut Pair, handed: MmdhLine, (scrap, due): (&[u8], Option<u64>
     let quiet = MmdhHeard { line: handed, ..MmdhHeard::default() };
     let refused = |answer, phase| {
         let line = MmdhLine { feed: MmdhFeed { phase, ..feed }, held: 0, dropping: 1 };
-        MmdhHeard { said: 1, answer, accepted: 0, used, line }
+        MmdhHeard { said: 1, answer, accepted: 0, used, line, dropped: 0 }
     };
     let taken = |next, internal| {
         let line = MmdhLine { feed: MmdhFeed { next, internal, heard: time, ..feed }, held: 0, dropping: 0 };
-        MmdhHeard { said: u64::from(allowed == 1), answer: 0, accepted: 1, used, line }
+        MmdhHeard { said: u64::from(allowed == 1), answer: 0, accepted: 1, used, line, dropped: 0 }
     };
     let wanted = match due {
         _ if allowed == 0 => quiet,
@@ -405,7 +406,7 @@ fn refusals(pair: &mut Pair) {
             let (from, answers) = (ends[at] as usize, units[..=at].iter().map(|unit| unit.0).collect::<Vec<u64>>());
             for torn in (0..bad.len()).step_by(if at < 2 { 1 } else { 7 }) {
                 let mut stand = Stand::new(LIVE, before.clone(), 64);
-                let (mut said, _) = stand.hear(pair, &bytes[..from + torn], 1, TIME);
+                let (mut said, ..) = stand.hear(pair, &bytes[..from + torn], 1, TIME);
                 let kept = stand.tables.clone();
                 let feed = MmdhFeed { phase: 5, whole: u64::from(answer < 15), ..stand.line.feed };
                 said.extend(stand.hear(pair, &bytes[from + torn..], 1, TIME).0);
@@ -447,7 +448,7 @@ fn wait_whole(pair: &mut Pair) {
         pair.tally.same(&got, &wanted, || format!("the first of the units, {} wait", held));
         for allowed in [1, 3, u64::MAX] {
             let mut stand = start.clone();
-            let (_, accepted) = stand.hear(pair, &bytes[held..], allowed, TIME);
+            let (_, accepted, _) = stand.hear(pair, &bytes[held..], allowed, TIME);
             let got = (accepted, stand.line, &stand.tables);
             let line = MmdhLine { feed: singles.feed, held: 0, dropping: 0 };
             pair.tally.same(&got, &(units.len() as u64, line, &by_singles), || format!("{} wait", held));
@@ -470,7 +471,7 @@ fn tiny(pair: &mut Pair) {
         for at in 0..=finished {
             for room in [22, 23, 24, 60] {
                 let mut stand = Stand::new(LIVE, frames::tables(), room);
-                let (said, _) = stand.hear(pair, &stream[..at], 1, TIME);
+                let (said, ..) = stand.hear(pair, &stream[..at], 1, TIME);
                 let too_long = 20 + size > room;
                 let due = at >= if too_long { SIZED } else { finished };
                 let answer = if too_long { 22 } else { answer };
@@ -496,7 +497,7 @@ fn heartbeats(pair: &mut Pair) {
         let stream = [&HEARTBEAT[..], behind].concat();
         for at in 0..=stream.len() {
             let mut stand = Stand::new(LIVE, frames::tables(), 22);
-            let (said, _) = stand.hear(pair, &stream[..at], 1, TIME);
+            let (said, ..) = stand.hear(pair, &stream[..at], 1, TIME);
             let wanted = vec![0; at / 20];
             pair.tally.same(&said, &wanted, || format!("{} bytes and {:?}", at, behind));
             let said = [said, stand.hear(pair, &stream[at..], 1, TIME).0].concat();
@@ -515,7 +516,7 @@ fn closed(pair: &mut Pair) {
     for (behind, finished) in [(&HEARTBEAT[..], 20), (&frames::units()[0].1, 56), (&[255; 30], 22)] {
         for at in 0..=behind.len() {
             let mut stand = Stand::new(LIVE, frames::tables(), 60);
-            let (said, _) = stand.hear(pair, &[&logout[..], &behind[..at]].concat(), 1, TIME);
+            let (said, ..) = stand.hear(pair, &[&logout[..], &behind[..at]].concat(), 1, TIME);
             let due = at >= finished;
             pair.tally.same(&said, &[0, 11][..1 + usize::from(due)].to_vec(), || format!("{} bytes behind", at));
             let held = if due { 0 } else { at as u64 };
@@ -567,7 +568,7 @@ fn connect(pair: &mut Pair, line: MmdhLine, room: usize, resuming: u64, time: u6
 fn resumed(pair: &mut Pair) {
     let mut stand = Stand::new(LIVE, frames::tables(), 56);
     let long = unit(8, 42, &message(60, 37));
-    let (said, _) = stand.hear(pair, &[&frames::units()[0].1[..], &long].concat(), 1, TIME);
+    let (said, ..) = stand.hear(pair, &[&frames::units()[0].1[..], &long].concat(), 1, TIME);
     pair.tally.same(&said, &vec![0, 22], || "a unit that has no room".to_string());
     let lost = stand.clone();
     for (resuming, time, room, answer) in [(1, TIME - 1, 56, 10), (1, TIME, 21, 22), (0, TIME, 0, 22)] {
@@ -585,7 +586,7 @@ fn resumed(pair: &mut Pair) {
         unit(3, 41, &bid(700, 1, 9)),
         unit(4, 42, &nominal(700, 9)),
     ];
-    let (said, _) = stand.hear(pair, &again.concat(), 1, TIME);
+    let (said, ..) = stand.hear(pair, &again.concat(), 1, TIME);
     pair.tally.same(&said, &vec![0, 0, 1, 0], || "what it missed".to_string());
     let (feed, book) = (stand.line.feed, stand.tables.books[SLOT]);
     pair.tally.same(&(feed.phase, feed.internal, feed.whole, book), &(4, 42, 1, 700), || "live again".to_string());
@@ -599,7 +600,7 @@ fn early(pair: &mut Pair) {
         pair.tally.same(&(torn.said, stand.line.held), &(0, 9), || "half a unit waits".to_string());
         let heard = stand.scrap(pair, &due[9..], 1, LIVE.heard - 1);
         let line = after_refusal(10);
-        let wanted = MmdhHeard { said: 1, answer: 10, accepted: 0, used: due.len() as u64 - 9, line };
+        let wanted = MmdhHeard { said: 1, answer: 10, accepted: 0, used: due.len() as u64 - 9, line, dropped: 0 };
         pair.tally.same(&heard, &wanted, || "10 when it is finished or 22 is due".to_string());
         for time in [LIVE.heard, LIVE.heard + LIVE.limit] {
             let dropped = stand.scrap(pair, &HEARTBEAT, 1, time);

@@ -1,11 +1,13 @@
 //! Single calls and single frames on random feeds, tables, bytes and times.
 
 use crate::emptied::meets;
+use crate::fallen;
 use crate::frames;
 use crate::pair::Pair;
 use crate::scene::{self, SLOT, STRIP, STRIPS};
 use crate::strips;
 use crate::tables::Tables;
+use crate::tally::Call;
 use exchange::dice::Dice;
 use exchange::{Entry, CLEAR};
 use mmdh::raw::{MmdhFeed, MmdhGiven};
@@ -135,12 +137,12 @@ fn whole_table(pair: &mut Pair, tables: &Tables, message: &[u8]) {
 fn arrival(pair: &mut Pair, dice: &mut Dice, tables: &Tables) {
     let (feed, bytes, time) = stream(dice, tables);
     let given = pair.arrive(feed, tables, &bytes, time);
-    note(pair, &feed, tables, bytes.get(20..).unwrap_or(&[]), &given);
+    note(pair, (Call::Arrive, &feed), tables, bytes.get(20..).unwrap_or(&[]), &given);
     if dice.once_in(2) {
         let from = if dice.once_in(10) { dice.place(bytes.len() + 1) } else { 20.min(bytes.len()) };
         let (seq, internal) = scene::numbers(dice, &feed);
         let given = pair.arrive_cut(feed, tables, seq, internal, &bytes[from..], time);
-        note(pair, &feed, tables, &bytes[from..], &given);
+        note(pair, (Call::ArriveCut, &feed), tables, &bytes[from..], &given);
     }
     if dice.once_in(4) {
         pair.read_row(&tables.books, dice.of(&scene::CODES), dice.below(2), 1 + dice.below(10));
@@ -152,7 +154,8 @@ fn arrival(pair: &mut Pair, dice: &mut Dice, tables: &Tables) {
 }
 
 /// Notes what a message met.
-fn note(pair: &mut Pair, feed: &MmdhFeed, tables: &Tables, message: &[u8], given: &MmdhGiven) {
+fn note(pair: &mut Pair, (call, feed): (Call, &MmdhFeed), tables: &Tables, message: &[u8], given: &MmdhGiven) {
+    fallen::note(&mut pair.tally, call, &tables.books, message, given);
     pair.tally.emptying(feed.phase, meets(&tables.books, message), given);
     pair.tally.strip(feed.phase, strips::meets(&tables.strips, message), given);
 }

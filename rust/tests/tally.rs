@@ -1,5 +1,5 @@
 //! Counts what was compared, by part, every answer that the library gave, and what was met by messages that empty a book,
-//! by those for a strip, by frames and by scraps.
+//! by those for a strip, by frames, by scraps, and by new levels that push out rows.
 
 use crate::scene::STRIPS;
 use mmdh::raw::MmdhGiven;
@@ -272,6 +272,35 @@ fn hearings() -> impl Iterator<Item = Hearing> {
     alone.into_iter().chain(ends).chain(long).chain(lay).chain(numbers).chain(answers)
 }
 
+/// What new levels may do to full sides in a call.
+#[derive(Clone, Copy, PartialEq, Eq, PartialOrd, Ord, Debug)]
+pub enum Falls {
+    /// One message pushes out one row of a side, or more.
+    OneBid,
+    OneOffer,
+    Bids,
+    Offers,
+    /// One message pushes out rows of both sides.
+    Both,
+    /// A delete or a clear comes behind one in the same message, and takes none back.
+    Kept,
+    /// An entry that does not fit comes behind one: 16, and none is counted.
+    Misfit,
+    /// Two messages of the call push out rows.
+    Messages,
+    /// A unit is refused behind one that pushes out rows, which are counted.
+    Refused,
+}
+
+/// The calls by which book messages come, and all that must have fallen in each at random by the end.
+fn falls() -> impl Iterator<Item = (Call, Falls)> {
+    use Falls::*;
+    let message = [OneBid, OneOffer, Bids, Offers, Both, Kept, Misfit];
+    let calls = [Call::Arrive, Call::ArriveCut, Call::ArriveFrame, Call::LineScrap];
+    let several = [Call::ArriveFrame, Call::LineScrap].into_iter().flat_map(|call| [(call, Messages), (call, Refused)]);
+    calls.into_iter().flat_map(move |call| message.map(|falls| (call, falls))).chain(several)
+}
+
 /// Differences printed in full before the rest are only counted.
 const SHOWN: u64 = 10;
 
@@ -285,6 +314,7 @@ pub struct Tally {
     strips: BTreeMap<(u64, StripMeets), u64>,
     frames: BTreeMap<Meeting, u64>,
     scraps: BTreeMap<Hearing, u64>,
+    falls: BTreeMap<(Call, Falls), u64>,
 }
 
 impl Tally {
@@ -339,6 +369,11 @@ impl Tally {
         *self.scraps.entry(met).or_insert(0) += 1;
     }
 
+    /// Notes what random new levels did to full sides in a call.
+    pub fn falls(&mut self, call: Call, met: Falls) {
+        *self.falls.entry((call, met)).or_insert(0) += 1;
+    }
+
     /// One comparison; the input is described only where the two differ.
     pub fn same<T: PartialEq + Debug>(&mut self, got: &T, wanted: &T, input: impl FnOnce() -> String) -> bool {
         self.holds(got == wanted, || format!("{}\n  got    {:?}\n  wanted {:?}", input(), got, wanted))
@@ -380,6 +415,9 @@ impl Tally {
         for (met, times) in other.scraps {
             *self.scraps.entry(met).or_insert(0) += times;
         }
+        for (met, times) in other.falls {
+            *self.falls.entry(met).or_insert(0) += times;
+        }
     }
 
     /// Prints the counts; true where all passed.
@@ -415,6 +453,11 @@ impl Tally {
             let met = self.scraps.contains_key(&hearing);
             self.holds(met, || format!("a scrap never met {:?}", hearing));
         }
+        self.part("all that new levels may do to full sides, met at random in every call that takes book messages");
+        for (call, falls) in falls() {
+            let met = self.falls.contains_key(&(call, falls));
+            self.holds(met, || format!("{:?} never met {:?}", call, falls));
+        }
         for (name, count) in &self.parts {
             println!("{:>9}  {}", count, name);
         }
@@ -429,6 +472,9 @@ impl Tally {
         }
         println!("frames (what they met: times)  {}", listed(self.frames.iter()));
         println!("scraps (what they met: times)  {}", listed(self.scraps.iter()));
+        for call in [Call::Arrive, Call::ArriveCut, Call::ArriveFrame, Call::LineScrap] {
+            println!("rows pushed out by {:?} (what it met: times)  {}", call, times(&self.falls, call));
+        }
         println!("{} passed, {} failed", self.passed, self.failed);
         self.failed == 0
     }

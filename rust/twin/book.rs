@@ -41,6 +41,25 @@ impl Row {
     }
 }
 
+/// The row that one entry pushed out of its side (request 6 of document 02); zeros where it pushed out none.
+#[derive(Clone, Copy, PartialEq, Eq, Debug, Default)]
+pub struct Dropped {
+    /// Whether a row was dropped.
+    pub whether: bool,
+    /// Its price in thousandths, signed.
+    pub price: i32,
+    /// Its shares.
+    pub quantity: u64,
+    /// Its orders.
+    pub orders: u32,
+}
+
+impl Dropped {
+    fn of(row: Row) -> Dropped {
+        Dropped { whether: true, price: row.price, quantity: row.quantity, orders: row.orders }
+    }
+}
+
 /// Which side of a book.
 #[derive(Clone, Copy, PartialEq, Eq, Debug)]
 pub enum Way {
@@ -102,11 +121,14 @@ impl Side {
             && (at == self.count || way.better(price, self.rows[at].price))
     }
 
-    fn insert(&mut self, at: usize, row: Row) {
+    /// Rows from this place on move down; a row pushed to 11 is dropped.
+    fn insert(&mut self, at: usize, row: Row) -> Dropped {
+        let dropped = if self.count == ROWS { Dropped::of(self.rows[ROWS - 1]) } else { Dropped::default() };
         let kept = self.count.min(ROWS - 1);
         self.rows.copy_within(at..kept, at + 1);
         self.rows[at] = row;
         self.count = kept + 1;
+        dropped
     }
 
     fn remove(&mut self, at: usize) {
@@ -114,51 +136,60 @@ impl Side {
         self.count -= 1;
     }
 
-    /// Applies one action to the row at this place; false where it does not fit.
-    fn apply(&mut self, way: Way, action: Action, at: usize, row: Row) -> bool {
+    /// Applies one action to the row at this place: the row that it pushed out, if any; nothing where it does not fit.
+    fn apply(&mut self, way: Way, action: Action, at: usize, row: Row) -> Option<Dropped> {
         match action {
-            Action::New => {
-                let fits = self.has_room(way, at, row.price);
-                if fits {
-                    self.insert(at, row);
-                }
-                fits
-            }
+            Action::New => self.has_room(way, at, row.price).then(|| self.insert(at, row)),
             Action::Change => {
                 let fits = at < self.count && self.rows[at].price == row.price;
                 if fits {
                     self.rows[at] = row;
                 }
-                fits
+                fits.then(Dropped::default)
             }
             Action::Delete => {
                 let fits = at < self.count;
                 if fits {
                     self.remove(at);
                 }
-                fits
+                fits.then(Dropped::default)
             }
         }
     }
 }
 
-#[derive(Clone, Copy)]
-enum Action {
+/// What is done to a row.
+#[derive(Clone, Copy, PartialEq, Eq, Debug)]
+pub enum Action {
+    /// A new row; those below move down.
     New,
+    /// Its quantity and orders are replaced.
     Change,
+    /// It goes; those below move up.
     Delete,
 }
 
 /// One entry whose fields are listed.
-#[derive(Clone, Copy)]
-enum Entry {
+#[derive(Clone, Copy, PartialEq, Eq, Debug)]
+pub enum Entry {
+    /// Both sides become empty.
     Clear,
-    Row { way: Way, action: Action, at: usize, row: Row },
+    /// One row of a side.
+    Row {
+        /// Its side.
+        way: Way,
+        /// What is done to it.
+        action: Action,
+        /// Its place, counted from 0.
+        at: usize,
+        /// Its numbers.
+        row: Row,
+    },
 }
 
 impl Entry {
     /// The entry in 24 bytes, if side, level and action are listed.
-    fn read(bytes: &[u8]) -> Option<Entry> {
+    pub fn read(bytes: &[u8]) -> Option<Entry> {
         let action = match bytes[19] {
             0 => Action::New,
             1 => Action::Change,
@@ -209,12 +240,12 @@ impl Book {
         self.offers.write(&mut slot[OFFERS_AT..SLOT]);
     }
 
-    /// Applies one entry; false where it does not fit.
-    fn apply(&mut self, entry: Entry) -> bool {
+    /// Applies one entry: the row that it pushed out, if any; nothing where it does not fit.
+    pub fn apply(&mut self, entry: Entry) -> Option<Dropped> {
         match entry {
             Entry::Clear => {
                 *self = Book::default();
-                true
+                Some(Dropped::default())
             }
             Entry::Row { way: Way::Bid, action, at, row } => self.bids.apply(Way::Bid, action, at, row),
             Entry::Row { way: Way::Offer, action, at, row } => self.offers.apply(Way::Offer, action, at, row),
@@ -222,27 +253,28 @@ impl Book {
     }
 }
 
-/// Takes a type 53 message of the right size, whole or not at all.
-pub fn take(table: &mut [u64], message: &[u8]) -> Result<(), Answer> {
+/// Takes a type 53 message of the right size, whole or not at all; how many rows its entries pushed out, each of the book as
+/// those before it left it.
+pub fn take(table: &mut [u64], message: &[u8]) -> Result<u64, Answer> {
     let code = u64::from(u32_at(message, 4));
     let entries = message[12..].chunks_exact(ENTRY);
     if !code_listed(code) || entries.clone().any(|entry| Entry::read(entry).is_none()) {
         return Err(Answer::NotListed);
     }
     if entries.len() == 0 {
-        return empty(table, code);
+        return empty(table, code).map(|()| 0);
     }
     let (k, mut book) = match find::<SLOT>(table, code) {
         Some(k) => (k, Book::read(slot::<SLOT>(table, k)).ok_or(Answer::Unsound)?),
         None => (find::<SLOT>(table, 0).ok_or(Answer::Full)?, Book::default()),
     };
+    let mut dropped = 0;
     for entry in entries.filter_map(Entry::read) {
-        if !book.apply(entry) {
-            return Err(Answer::Misfit);
-        }
+        let row = book.apply(entry).ok_or(Answer::Misfit)?;
+        dropped += u64::from(row.whether);
     }
     book.write(code, slot_mut::<SLOT>(table, k));
-    Ok(())
+    Ok(dropped)
 }
 
 /// NoEntries 0: both sides of the code's book become empty, and its slot stays its own (request 1 of document 02). A code

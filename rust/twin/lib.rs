@@ -1,6 +1,6 @@
-//! Document 01 in plain Rust, with requests 1 to 3 and 5 of document 02, written from the documents alone, but for which bytes
-//! of the holding buffer are written (docs/DECISIONS.md, "Every byte of the buffer"): the same calls over the same tables of
-//! words.
+//! Document 01 in plain Rust, with requests 1 to 3, 5 and 6 of document 02, written from the documents alone, but for which
+//! bytes of the holding buffer are written (docs/DECISIONS.md, "Every byte of the buffer"): the same calls over the same tables
+//! of words.
 //! The library is compared with it, answer by answer and word by word.
 
 #![forbid(unsafe_code)]
@@ -138,6 +138,8 @@ pub struct Given {
     pub used: u64,
     /// The feed after the call.
     pub feed: Feed,
+    /// Rows that the entries of a book message pushed out; 0 unless it was taken.
+    pub dropped: u64,
 }
 
 /// What a whole frame hands back.
@@ -151,6 +153,8 @@ pub struct Frame {
     pub used: u64,
     /// The feed after them.
     pub feed: Feed,
+    /// Rows that they pushed out.
+    pub dropped: u64,
 }
 
 /// What reading a row hands back.
@@ -210,7 +214,7 @@ fn limit_listed(limit: u64) -> bool {
 pub fn new(limit: u64) -> Given {
     let (answer, limit) = if limit_listed(limit) { (Answer::Taken, limit) } else { (Answer::BadLimit, 1_000) };
     let feed = Feed { phase: Phase::Idle, next: 1, internal: 0, heard: 0, limit, whole: false, fresh: true };
-    Given { answer, used: 0, feed }
+    feed.given(answer, 0)
 }
 
 /// A connect, fresh or resuming.
@@ -221,8 +225,7 @@ pub fn connect(feed: Feed, resuming: bool, time: u64) -> Given {
     if resuming && !(feed.whole && feed.internal >= 1) {
         return feed.unchanged(Answer::CannotResume);
     }
-    let feed = Feed { phase: Phase::WaitKey, next: 1, heard: time, fresh: !resuming, ..feed };
-    Given { answer: Answer::Taken, used: 0, feed }
+    Feed { phase: Phase::WaitKey, next: 1, heard: time, fresh: !resuming, ..feed }.given(Answer::Taken, 0)
 }
 
 /// The first unit of a stream arrives.
@@ -232,7 +235,10 @@ pub fn arrive(feed: Feed, mut tables: Tables<'_>, stream: &[u8], time: u64) -> G
     }
     match unit::cut(stream) {
         Unit::More => feed.unchanged(Answer::More),
-        Unit::Heartbeat => Given { answer: Answer::Taken, used: HEADER as u64, feed: Feed { heard: time, ..feed } },
+        Unit::Heartbeat => {
+            let heard = Feed { heard: time, ..feed }.given(Answer::Taken, 0);
+            Given { used: HEADER as u64, ..heard }
+        }
         Unit::Message { seq, internal, message } => {
             let given = feed.delivered(&mut tables, seq, internal, message, time);
             let used = if given.answer.is_accepted() { HEADER + message.len() } else { 0 };
@@ -243,7 +249,7 @@ pub fn arrive(feed: Feed, mut tables: Tables<'_>, stream: &[u8], time: u64) -> G
 
 /// A whole frame's units arrive, at most as many as are allowed; More and the first refusal end it too.
 pub fn arrive_frame(feed: Feed, mut tables: Tables<'_>, stream: &[u8], allowed: u64, time: u64) -> Frame {
-    let mut frame = Frame { answer: Answer::Taken, accepted: 0, used: 0, feed };
+    let mut frame = Frame { answer: Answer::Taken, accepted: 0, used: 0, feed, dropped: 0 };
     while frame.accepted < allowed {
         let given = arrive(frame.feed, tables.again(), &stream[frame.used as usize..], time);
         frame.answer = given.answer;
@@ -253,6 +259,7 @@ pub fn arrive_frame(feed: Feed, mut tables: Tables<'_>, stream: &[u8], allowed: 
         }
         frame.accepted += 1;
         frame.used += given.used;
+        frame.dropped += given.dropped;
     }
     frame
 }
@@ -388,13 +395,18 @@ fn size_right(message: &[u8]) -> bool {
 }
 
 impl Feed {
+    /// An answer with this feed after it, no bytes used, and rows that were pushed out.
+    fn given(self, answer: Answer, dropped: u64) -> Given {
+        Given { answer, used: 0, feed: self, dropped }
+    }
+
     fn unchanged(self, answer: Answer) -> Given {
-        Given { answer, used: 0, feed: self }
+        self.given(answer, 0)
     }
 
     fn lost(self, answer: Answer) -> Given {
         let spoilt = matches!(answer, Answer::NotListed | Answer::Misfit | Answer::Full | Answer::Unsound);
-        Given { answer, used: 0, feed: Feed { phase: Phase::Lost, whole: self.whole && !spoilt, ..self } }
+        Feed { phase: Phase::Lost, whole: self.whole && !spoilt, ..self }.given(answer, 0)
     }
 
     /// Why no arrival is looked at, if so.
@@ -435,14 +447,11 @@ impl Feed {
         }
         let heard = Feed { next: self.next + 1, heard: time, ..self };
         let acted = if is_session(kind) {
-            heard.session(tables, kind, message).map(|feed| (Answer::Taken, feed))
+            heard.session(tables, kind, message).map(|feed| feed.given(Answer::Taken, 0))
         } else {
             heard.market(tables, kind, u64::from(internal), message)
         };
-        match acted {
-            Ok((answer, feed)) => Given { answer, used: 0, feed },
-            Err(answer) => self.lost(answer),
-        }
+        acted.unwrap_or_else(|answer| self.lost(answer))
     }
 
     /// A session message that the phase allows.
@@ -478,24 +487,19 @@ impl Feed {
     }
 
     /// A market message that the phase allows.
-    fn market(
-        self,
-        tables: &mut Tables<'_>,
-        kind: u16,
-        internal: u64,
-        message: &[u8],
-    ) -> Result<(Answer, Feed), Answer> {
+    fn market(self, tables: &mut Tables<'_>, kind: u16, internal: u64, message: &[u8]) -> Result<Given, Answer> {
         let live = self.phase == Phase::Live;
         if live && internal <= self.internal {
-            return Ok((Answer::Seen, self));
+            return Ok(self.given(Answer::Seen, 0));
         }
         let feed = if live { Feed { internal, ..self } } else { self };
         match kind {
-            53 => book::take(tables.books, message)?,
-            _ if strip::size(kind).is_some() => strip::take(tables.strips, message)?,
-            _ => return Ok((Answer::Passed, feed)),
+            53 => book::take(tables.books, message).map(|dropped| feed.given(Answer::Taken, dropped)),
+            _ if strip::size(kind).is_some() => {
+                strip::take(tables.strips, message).map(|()| feed.given(Answer::Taken, 0))
+            }
+            _ => Ok(feed.given(Answer::Passed, 0)),
         }
-        Ok((Answer::Taken, feed))
     }
 }
 

@@ -39,6 +39,8 @@ pub struct Heard {
     pub used: u64,
     /// The line after it.
     pub line: Line,
+    /// Rows that the units accepted pushed out.
+    pub dropped: u64,
 }
 
 /// A connect with the holding buffer that scraps will wait in: 10, 20, then 22 where a header and MsgSize have no room.
@@ -53,7 +55,7 @@ pub fn connect(line: Line, hold: &[u8], resuming: bool, time: u64) -> Linked {
 
 /// A scrap comes in; at most so many units go through the feed.
 pub fn scrap(line: Line, mut tables: Tables<'_>, hold: &mut [u8], scrap: &[u8], allowed: u64, time: u64) -> Heard {
-    let mut heard = Heard { said: None, accepted: 0, used: 0, line };
+    let mut heard = Heard { said: None, accepted: 0, used: 0, line, dropped: 0 };
     if allowed == 0 {
         return heard;
     }
@@ -71,6 +73,7 @@ pub fn scrap(line: Line, mut tables: Tables<'_>, hold: &mut [u8], scrap: &[u8], 
             _ => return Heard { used: all, ..heard },
         }
         heard.accepted += 1;
+        heard.dropped += step.dropped;
     }
     heard
 }
@@ -104,6 +107,7 @@ struct Step {
     said: Option<Answer>,
     used: u64,
     line: Line,
+    dropped: u64,
 }
 
 impl Line {
@@ -124,7 +128,7 @@ impl Line {
             Front::Torn => {
                 hold[held..bytes.len()].copy_from_slice(rest);
                 let line = Line { held: bytes.len() as u64, dropping: false, ..self };
-                return Step { said: None, used: rest.len() as u64, line };
+                return Step { said: None, used: rest.len() as u64, line, dropped: 0 };
             }
             Front::TooLong => return self.refused(self.feed.too_long(time)),
             Front::Finished(length) => length,
@@ -138,12 +142,14 @@ impl Line {
         }
         hold.copy_within(length.min(held)..held, 0);
         let line = Line { feed: given.feed, held: held.saturating_sub(length) as u64, dropping: false };
-        Step { said: Some(given.answer), used: length.saturating_sub(held) as u64, line }
+        let used = length.saturating_sub(held) as u64;
+        Step { said: Some(given.answer), used, line, dropped: given.dropped }
     }
 
     /// Nothing waits any more, and what follows is dropped.
     fn refused(self, given: Given) -> Step {
-        Step { said: Some(given.answer), used: 0, line: Line { feed: given.feed, held: 0, dropping: true } }
+        let line = Line { feed: given.feed, held: 0, dropping: true };
+        Step { said: Some(given.answer), used: 0, line, dropped: 0 }
     }
 }
 

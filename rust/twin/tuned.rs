@@ -7,32 +7,44 @@ use crate::strip::{self, STRIP};
 use crate::unit::{u16_at, u32_at, u64_at, HEADER};
 use crate::{Answer, Feed, Frame, Phase, Tables};
 
-/// The first unit of a stream arrives; the answer and the bytes used.
-pub fn arrive(feed: &mut Feed, tables: Tables<'_>, stream: &[u8], time: u64) -> (Answer, u64) {
+/// What an arrival hands back beside the feed.
+#[derive(Clone, Copy, PartialEq, Eq, Debug)]
+pub struct Arrival {
+    /// The answer.
+    pub answer: Answer,
+    /// Bytes used.
+    pub used: u64,
+    /// Rows that the entries of a book message pushed out.
+    pub dropped: u64,
+}
+
+/// The first unit of a stream arrives.
+pub fn arrive(feed: &mut Feed, tables: Tables<'_>, stream: &[u8], time: u64) -> Arrival {
     match live_message(feed, stream, time) {
         Some(message) => arrive_live(feed, tables, stream, message, time),
         None => {
             let given = crate::arrive(*feed, tables, stream, time);
             *feed = given.feed;
-            (given.answer, given.used)
+            Arrival { answer: given.answer, used: given.used, dropped: given.dropped }
         }
     }
 }
 
 /// A whole frame's units arrive, at most as many as are allowed.
 pub fn arrive_frame(mut feed: Feed, mut tables: Tables<'_>, stream: &[u8], allowed: u64, time: u64) -> Frame {
-    let (mut accepted, mut rest) = (0, stream);
+    let (mut accepted, mut dropped, mut rest) = (0, 0, stream);
     let mut last = Answer::Taken;
     while accepted < allowed {
-        let (answer, used) = arrive(&mut feed, tables.again(), rest, time);
-        last = answer;
-        if !answer.is_accepted() {
+        let arrival = arrive(&mut feed, tables.again(), rest, time);
+        last = arrival.answer;
+        if !last.is_accepted() {
             break;
         }
         accepted += 1;
-        rest = &rest[used as usize..];
+        dropped += arrival.dropped;
+        rest = &rest[arrival.used as usize..];
     }
-    Frame { answer: last, accepted, used: (stream.len() - rest.len()) as u64, feed }
+    Frame { answer: last, accepted, used: (stream.len() - rest.len()) as u64, feed, dropped }
 }
 
 /// The message, if it is the next one, new to a feed in Live, and a book or a strip message of the right size.
@@ -54,28 +66,28 @@ fn live_message<'a>(feed: &Feed, stream: &'a [u8], time: u64) -> Option<&'a [u8]
 }
 
 #[inline]
-fn arrive_live(feed: &mut Feed, tables: Tables<'_>, stream: &[u8], message: &[u8], time: u64) -> (Answer, u64) {
+fn arrive_live(feed: &mut Feed, tables: Tables<'_>, stream: &[u8], message: &[u8], time: u64) -> Arrival {
     let taken = match u16_at(message, 2) {
         53 => take(tables.books, message),
-        kind => take_strip(tables.strips, kind, message),
+        kind => take_strip(tables.strips, kind, message).map(|()| 0),
     };
     match taken {
-        Ok(()) => {
+        Ok(dropped) => {
             feed.next += 1;
             feed.internal = u64::from(u32_at(stream, 8));
             feed.heard = time;
-            (Answer::Taken, (HEADER + message.len()) as u64)
+            Arrival { answer: Answer::Taken, used: (HEADER + message.len()) as u64, dropped }
         }
         Err(answer) => {
             feed.phase = Phase::Lost;
             feed.whole = false;
-            (answer, 0)
+            Arrival { answer, used: 0, dropped: 0 }
         }
     }
 }
 
-/// Takes a type 53 message of the right size, whole or not at all.
-fn take(table: &mut [u64], message: &[u8]) -> Result<(), Answer> {
+/// Takes a type 53 message of the right size, whole or not at all; how many rows it pushed out.
+fn take(table: &mut [u64], message: &[u8]) -> Result<u64, Answer> {
     let code = u64::from(u32_at(message, 4));
     let entries = &message[12..];
     if !code_listed(code) || !entries.chunks_exact(ENTRY).all(listed) {
@@ -84,7 +96,7 @@ fn take(table: &mut [u64], message: &[u8]) -> Result<(), Answer> {
     let words = slot_words::<SLOT>(table);
     let slots = &mut table[..words];
     if entries.is_empty() {
-        return empty_out(slots, code);
+        return empty_out(slots, code).map(|()| 0);
     }
     let slot: &mut [u64; SLOT] = slot_for(slots, code)?;
     if slot[0] != 0 && !sound(slot) {
@@ -94,13 +106,17 @@ fn take(table: &mut [u64], message: &[u8]) -> Result<(), Answer> {
     if slot[0] == 0 {
         *slot = empty(code);
     }
+    let mut dropped = 0;
     for entry in entries.chunks_exact(ENTRY) {
-        if !apply(slot, entry.try_into().expect("an entry")) {
-            *slot = before;
-            return Err(Answer::Misfit);
+        match apply(slot, entry.try_into().expect("an entry")) {
+            Some(row) => dropped += u64::from(row.is_some()),
+            None => {
+                *slot = before;
+                return Err(Answer::Misfit);
+            }
         }
     }
-    Ok(())
+    Ok(dropped)
 }
 
 /// NoEntries 0: the code's book, if it has one, loses its rows and keeps its slot.
@@ -219,27 +235,28 @@ fn sound_side(words: &[u64; 30], count: u64, falling: bool) -> bool {
     sound
 }
 
-/// Applies one listed entry; false where it does not fit.
+/// The words of a row that an entry pushed out, if it did.
+type Fell = Option<[u64; 3]>;
+
+/// Applies one listed entry; nothing where it does not fit.
 #[inline]
-fn apply(book: &mut [u64; SLOT], entry: &[u8; ENTRY]) -> bool {
+fn apply(book: &mut [u64; SLOT], entry: &[u8; ENTRY]) -> Option<Fell> {
     if entry[19] == 74 {
         book[1..].fill(0);
-        return true;
+        return Some(None);
     }
     let bid = entry[16] == 0;
     let (count_at, rows_at) = if bid { (1, 4) } else { (2, 34) };
     let count = book[count_at] as usize;
     let rows: &mut [u64; 30] = (&mut book[rows_at..rows_at + 30]).try_into().expect("thirty words");
-    match apply_side(rows, count, bid, entry) {
-        Some(count) => book[count_at] = count as u64,
-        None => return false,
-    }
-    true
+    let (count, fell) = apply_side(rows, count, bid, entry)?;
+    book[count_at] = count as u64;
+    Some(fell)
 }
 
-/// The count of rows after an entry to one side.
+/// The count of rows after an entry to one side, and the row that it pushed out.
 #[inline]
-fn apply_side(rows: &mut [u64; 30], count: usize, bid: bool, entry: &[u8; ENTRY]) -> Option<usize> {
+fn apply_side(rows: &mut [u64; 30], count: usize, bid: bool, entry: &[u8; ENTRY]) -> Option<(usize, Fell)> {
     let at = usize::from(entry[18]) - 1;
     let price = u64::from(u32_at(entry, 8) ^ 0x8000_0000);
     let row = [price, u64_at(entry, 0), u64::from(u32_at(entry, 12))];
@@ -250,17 +267,18 @@ fn apply_side(rows: &mut [u64; 30], count: usize, bid: bool, entry: &[u8; ENTRY]
             if at > count || !after_above || (at < count && !better(price, rows[3 * at])) {
                 return None;
             }
+            let fell = (count == 10).then(|| [rows[27], rows[28], rows[29]]);
             let kept = count.min(9);
             rows.copy_within(3 * at..3 * kept, 3 * at + 3);
             rows[3 * at..3 * at + 3].copy_from_slice(&row);
-            Some(kept + 1)
+            Some((kept + 1, fell))
         }
         1 => {
             if at >= count || rows[3 * at] != price {
                 return None;
             }
             rows[3 * at..3 * at + 3].copy_from_slice(&row);
-            Some(count)
+            Some((count, None))
         }
         _ => {
             if at >= count {
@@ -268,7 +286,7 @@ fn apply_side(rows: &mut [u64; 30], count: usize, bid: bool, entry: &[u8; ENTRY]
             }
             rows.copy_within(3 * at + 3..3 * count, 3 * at);
             rows[3 * count - 3..3 * count].fill(0);
-            Some(count - 1)
+            Some((count - 1, None))
         }
     }
 }

@@ -86,7 +86,7 @@ fn phases_follow_the_session() {
     assert_eq!((feed.next(), feed.internal(), feed.heard(), feed.whole()), (5, 9, 6, true));
     assert_eq!(feed.connect(Connect::Resuming, 8), Answer::Taken);
     assert_eq!((feed.fresh(), feed.logon_number()), (false, 9));
-    assert_eq!(feed.arrive_cut(&mut tables, 2, 0, &message(1105, 4), 8), Answer::NotNext);
+    assert_eq!(feed.arrive_cut(&mut tables, 2, 0, &message(1105, 4), 8).answer, Answer::NotNext);
     assert_eq!(feed.phase(), Phase::Lost);
 }
 
@@ -123,10 +123,10 @@ fn no_book_is_told_from_an_empty_one() {
     let mut tables = Tables::with_slots(2);
     let mut feed = live(&mut tables, 0);
     let one = Entry { price: 1, level: 1, ..Entry::default() };
-    assert_eq!(feed.arrive_cut(&mut tables, 3, 1, &book_message(5, &[one]), 0), Answer::Taken);
+    assert_eq!(feed.arrive_cut(&mut tables, 3, 1, &book_message(5, &[one]), 0).answer, Answer::Taken);
     assert_eq!(tables.books.offers(5).map(|rows| rows.len()), Ok(0));
     let clear = Entry { action: exchange::CLEAR, ..Entry::default() };
-    assert_eq!(feed.arrive_cut(&mut tables, 4, 2, &book_message(5, &[clear]), 0), Answer::Taken);
+    assert_eq!(feed.arrive_cut(&mut tables, 4, 2, &book_message(5, &[clear]), 0).answer, Answer::Taken);
     assert_eq!(tables.books.bids(5).map(|rows| rows.len()), Ok(0));
     assert_eq!(tables.books.bids(6).map_err(|refused| refused.answer()), Err(Answer::NoRow));
     assert_eq!(tables.books.bids(0).map_err(|refused| refused.answer()), Err(Answer::NotListed));
@@ -143,7 +143,12 @@ fn an_emptied_book_keeps_its_slot_and_has_no_rows() {
     let messages = [filled(5), filled(6), emptied(5), emptied(5), emptied(7)];
     for (at, message) in messages.iter().enumerate() {
         let number = at as u32;
-        assert_eq!(feed.arrive_cut(&mut tables, number + 3, number + 1, message, 0), Answer::Taken, "message {}", at);
+        assert_eq!(
+            feed.arrive_cut(&mut tables, number + 3, number + 1, message, 0).answer,
+            Answer::Taken,
+            "message {}",
+            at
+        );
     }
     assert_eq!(tables.books.codes().collect::<Vec<_>>(), [5, 6]);
     assert_eq!(
@@ -153,7 +158,7 @@ fn an_emptied_book_keeps_its_slot_and_has_no_rows() {
     assert_eq!(tables.books.row(5, Side::Bid, 1).map_err(|refused| refused.answer()), Err(Answer::NoRow));
     assert_eq!(tables.books.bids(6).map(|rows| rows.len()), Ok(1));
     assert_eq!(tables.books.bids(7).map_err(|refused| refused.answer()), Err(Answer::NoRow));
-    assert_eq!(feed.arrive_cut(&mut tables, 8, 6, &filled(5), 0), Answer::Taken);
+    assert_eq!(feed.arrive_cut(&mut tables, 8, 6, &filled(5), 0).answer, Answer::Taken);
     assert_eq!(numbers(&tables.books.bids(5).expect("a book")), [(1, 0, 0)]);
 }
 
@@ -165,7 +170,7 @@ fn an_unsound_book_is_not_emptied() {
     let mut feed = live(&mut tables, 0);
     tables.books = Books::over(&mut words);
     let emptied = book_message(5, &[]);
-    assert_eq!(feed.arrive_cut(&mut tables, 3, 1, &emptied, 0), Answer::Unsound);
+    assert_eq!(feed.arrive_cut(&mut tables, 3, 1, &emptied, 0).answer, Answer::Unsound);
     assert_eq!((feed.phase(), feed.whole(), &words[..4]), (Phase::Lost, false, &[5, 0, 0, 1][..]));
 }
 
@@ -175,7 +180,7 @@ fn a_full_side_has_ten_rows() {
     let mut feed = live(&mut tables, 0);
     let ten: Vec<Entry> =
         (1..=10).map(|level| Entry { price: i32::from(level), side: 1, level, ..Entry::default() }).collect();
-    assert_eq!(feed.arrive_cut(&mut tables, 3, 1, &book_message(5, &ten), 0), Answer::Taken);
+    assert_eq!(feed.arrive_cut(&mut tables, 3, 1, &book_message(5, &ten), 0).answer, Answer::Taken);
     let offers = tables.books.offers(5).expect("a book");
     assert_eq!(offers.iter().map(|row| row.price).collect::<Vec<_>>(), (1..=10).collect::<Vec<_>>());
     for (at, row) in offers.into_iter().enumerate() {
@@ -191,8 +196,8 @@ fn books_may_lie_over_the_callers_words() {
     let mut feed = live(&mut tables, 0);
     assert_eq!(tables.books.slots(), 1);
     let sent = |code| book_message(code, &[Entry { price: 1, level: 1, ..Entry::default() }]);
-    assert_eq!(feed.arrive_cut(&mut tables, 3, 1, &sent(5), 0), Answer::Taken);
-    assert_eq!(feed.arrive_cut(&mut tables, 4, 2, &sent(6), 0), Answer::Full);
+    assert_eq!(feed.arrive_cut(&mut tables, 3, 1, &sent(5), 0).answer, Answer::Taken);
+    assert_eq!(feed.arrive_cut(&mut tables, 4, 2, &sent(6), 0).answer, Answer::Full);
     assert!(!feed.whole());
     assert_eq!(words[..2], [5, 1]);
     words[3] = 1;

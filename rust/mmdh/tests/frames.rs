@@ -80,7 +80,7 @@ fn nothing_allowed_changes_nothing() {
             for (whole, fresh) in [(0, 0), (1, 1), (7, 256), (u64::MAX, 2)] {
                 let feed = MmdhFeed { phase, heard, whole, fresh, limit: 0, ..LIVE };
                 for bytes in [&bytes[..], &bytes[..30], &[]] {
-                    let wanted = MmdhFrame { answer: 0, accepted: 0, used: 0, feed };
+                    let wanted = MmdhFrame { answer: 0, accepted: 0, used: 0, feed, dropped: 0 };
                     assert_eq!(frame(feed, bytes, 0, time), (wanted, Words::new()));
                 }
             }
@@ -105,7 +105,8 @@ fn every_allowed_number_ends_where_single_calls_end() {
     for (allowed, last) in ANSWERS.into_iter().enumerate().map(|(at, answer)| (at + 1, answer)) {
         let (given, words) = frame(LIVE, &bytes, allowed as u64, 5_001);
         let (feed, by_singles) = singles(LIVE, &bytes, allowed, 5_001);
-        let wanted = MmdhFrame { answer: last, accepted: allowed as u64, used: ends(&units, allowed), feed };
+        let (accepted, used) = (allowed as u64, ends(&units, allowed));
+        let wanted = MmdhFrame { answer: last, accepted, used, feed, dropped: 0 };
         assert_eq!((given, words), (wanted, by_singles), "{} allowed", allowed);
     }
 }
@@ -115,7 +116,7 @@ fn more_than_there_are_end_at_more() {
     let (units, bytes) = (units(), units().concat());
     let (feed, by_singles) = singles(LIVE, &bytes, 7, 5_001);
     for allowed in [8, 9, 1_000, 1 << 32, u64::MAX] {
-        let wanted = MmdhFrame { answer: 3, accepted: 7, used: ends(&units, 7), feed };
+        let wanted = MmdhFrame { answer: 3, accepted: 7, used: ends(&units, 7), feed, dropped: 0 };
         assert_eq!(frame(LIVE, &bytes, allowed, 5_001), (wanted, by_singles.clone()), "{} allowed", allowed);
     }
 }
@@ -127,7 +128,7 @@ fn a_torn_last_unit_is_more() {
     let whole = ends(&units, 6);
     for length in whole..bytes.len() as u64 {
         let torn = &bytes[..length as usize];
-        let reached = MmdhFrame { answer: 0, accepted: 6, used: whole, feed };
+        let reached = MmdhFrame { answer: 0, accepted: 6, used: whole, feed, dropped: 0 };
         assert_eq!(frame(LIVE, torn, 6, 5_001), (reached, by_singles.clone()));
         for allowed in [7, u64::MAX] {
             let more = MmdhFrame { answer: 3, ..reached };
@@ -149,9 +150,8 @@ fn a_refusal_in_the_middle_ends_it_and_leaves_what_stands_before() {
         let mut units = units();
         units[5] = unit;
         let (before, by_singles) = singles(LIVE, &units.concat(), 5, 5_001);
-        let whole = u64::from(answer < 15);
-        let wanted =
-            MmdhFrame { answer, accepted: 5, used: ends(&units, 5), feed: MmdhFeed { phase: 5, whole, ..before } };
+        let feed = MmdhFeed { phase: 5, whole: u64::from(answer < 15), ..before };
+        let wanted = MmdhFrame { answer, accepted: 5, used: ends(&units, 5), feed, dropped: 0 };
         for allowed in [6, 7, u64::MAX] {
             assert_eq!(frame(LIVE, &units.concat(), allowed, 5_001), (wanted, by_singles.clone()), "{}", answer);
         }
@@ -164,7 +164,8 @@ fn a_refusal_in_the_middle_ends_it_and_leaves_what_stands_before() {
 fn heartbeats_count_and_are_heard() {
     let bytes = HEARTBEAT.repeat(3);
     for (allowed, answer, accepted) in [(1, 0, 1), (2, 0, 2), (3, 0, 3), (4, 3, 3), (u64::MAX, 3, 3)] {
-        let wanted = MmdhFrame { answer, accepted, used: 20 * accepted, feed: MmdhFeed { heard: 5_900, ..LIVE } };
+        let feed = MmdhFeed { heard: 5_900, ..LIVE };
+        let wanted = MmdhFrame { answer, accepted, used: 20 * accepted, feed, dropped: 0 };
         assert_eq!(frame(LIVE, &bytes, allowed, 5_900), (wanted, Words::new()));
     }
 }
@@ -174,7 +175,7 @@ fn no_bytes_are_more_or_not_open() {
     for (phase, answer) in [(1, 3), (2, 3), (3, 3), (4, 3), (0, 11), (5, 11), (6, 11)] {
         let feed = MmdhFeed { phase, ..LIVE };
         for allowed in [1, 2, u64::MAX] {
-            let wanted = MmdhFrame { answer, accepted: 0, used: 0, feed };
+            let wanted = MmdhFrame { answer, accepted: 0, used: 0, feed, dropped: 0 };
             assert_eq!(frame(feed, &[], allowed, 5_000), (wanted, Words::new()));
             let early = MmdhFrame { answer: 10, ..wanted };
             assert_eq!(frame(feed, &units().concat(), allowed, 4_999), (early, Words::new()));
@@ -187,7 +188,7 @@ fn behind_a_logout_it_is_not_open() {
     let bytes = [unit(3, 0, &session(1103, 6)), unit(4, 1, &bid(700, 1, 9_730))].concat();
     let closed = MmdhFeed { phase: 6, next: 4, heard: 5_001, ..LIVE };
     for (length, allowed, answer) in [(84, 1, 0), (84, 2, 11), (28, 1, 0), (28, 2, 11), (28, u64::MAX, 11)] {
-        let wanted = MmdhFrame { answer, accepted: 1, used: 28, feed: closed };
+        let wanted = MmdhFrame { answer, accepted: 1, used: 28, feed: closed, dropped: 0 };
         assert_eq!(frame(LIVE, &bytes[..length], allowed, 5_001), (wanted, Words::new()));
     }
 }

@@ -73,7 +73,7 @@ fn strips_are_refused_by_name() {
     }
     assert_eq!(tables.strips.codes().collect::<Vec<_>>(), [5, 6]);
     assert_eq!(tables.books.codes().count(), 0);
-    assert_eq!(feed.arrive_cut(&mut tables, 5, 3, &nominal(7, 1), 0), Answer::Full);
+    assert_eq!(feed.arrive_cut(&mut tables, 5, 3, &nominal(7, 1), 0).answer, Answer::Full);
     assert_eq!((feed.phase(), feed.whole()), (Phase::Lost, false));
 }
 
@@ -85,7 +85,7 @@ fn sizes_and_codes_are_judged() {
             .chain([(size, 0, Answer::NotListed), (size, 100_000, Answer::NotListed)])
         {
             let (mut feed, mut tables) = filled(&[]);
-            assert_eq!(feed.arrive_cut(&mut tables, 3, 1, &about(kind, size, code), 0), wanted, "type {}", kind);
+            assert_eq!(feed.arrive_cut(&mut tables, 3, 1, &about(kind, size, code), 0).answer, wanted, "type {}", kind);
             assert_eq!(tables.strips.codes().count(), 0);
         }
     }
@@ -98,14 +98,14 @@ fn strips_may_lie_over_the_callers_words() {
     let (mut feed, mut tables) = filled(&[]);
     tables.strips = Strips::over(&mut words);
     assert_eq!(tables.strips.slots(), 1);
-    assert_eq!(feed.arrive_cut(&mut tables, 3, 1, &nominal(5, -1), 0), Answer::Taken);
+    assert_eq!(feed.arrive_cut(&mut tables, 3, 1, &nominal(5, -1), 0).answer, Answer::Taken);
     assert_eq!(words[..4], [5, 1, 2_147_483_647, 0]);
     assert_eq!(words[12..], [7; 11]);
     words[11] = 1;
     let (mut feed, mut tables) = filled(&[]);
     tables.strips = Strips::over(&mut words);
     assert_eq!(tables.strips.strip(5).map_err(|refused| refused.answer()), Err(Answer::Unsound));
-    assert_eq!(feed.arrive_cut(&mut tables, 3, 1, &nominal(5, 1), 0), Answer::Unsound);
+    assert_eq!(feed.arrive_cut(&mut tables, 3, 1, &nominal(5, 1), 0).answer, Answer::Unsound);
     assert_eq!(format!("{:?}", tables.strips), "Strips { slots: 1, codes: [5] }");
     assert_eq!(Strips::with_slots(5_000).slots(), 4_096);
 }
