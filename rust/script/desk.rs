@@ -48,17 +48,18 @@ impl Scrapped {
         heard
     }
 
-    /// Unit by unit, up to a refusal or what waits; the answers.
-    fn by_units(&mut self, scrap: &[u8], now: u64) -> Vec<u64> {
-        let (mut answers, mut rest) = (Vec::new(), scrap);
+    /// Unit by unit, up to a refusal or what waits; the answers, and the rows dropped.
+    fn by_units(&mut self, scrap: &[u8], now: u64) -> (Vec<u64>, u64) {
+        let (mut answers, mut dropped, mut rest) = (Vec::new(), 0, scrap);
         loop {
             let heard = self.call(rest, 1, now);
+            dropped += heard.dropped;
             if heard.said == 0 {
-                return answers;
+                return (answers, dropped);
             }
             answers.push(heard.answer);
             if heard.answer > 2 {
-                return answers;
+                return (answers, dropped);
             }
             rest = &rest[heard.used as usize..];
         }
@@ -130,30 +131,30 @@ impl Desk {
     }
 
     /// Goes on with the feed that was handed back.
-    fn after(&mut self, name: &str, given: MmdhGiven, used: bool) -> String {
+    fn after(&mut self, name: &str, given: MmdhGiven) -> String {
         self.feed = Some(given.feed);
-        let used = if used { format!(" {}", given.used) } else { String::new() };
-        format!("{} {}{} {}", name, given.answer, used, numbers(&given.feed))
+        format!("{} {} {}", name, given.answer, numbers(&given.feed))
     }
 
     fn new_feed(&mut self, words: &mut Words<'_>) -> Result<String, String> {
         let limit = words.number("LIMIT")?;
         words.end()?;
-        Ok(self.after("new", raw::new(limit), false))
+        Ok(self.after("new", raw::new(limit)))
     }
 
     fn connect(&mut self, words: &mut Words<'_>) -> Result<String, String> {
         let (resuming, now) = (words.number("RESUMING")?, words.number("NOW")?);
         words.end()?;
         let given = raw::connect(self.feed()?, resuming, now);
-        Ok(self.after("connect", given, false))
+        Ok(self.after("connect", given))
     }
 
     fn arrive(&mut self, words: &mut Words<'_>) -> Result<String, String> {
         let (now, bytes) = (words.number("NOW")?, words.bytes("BYTES")?);
         words.end()?;
         let given = raw::arrive(self.feed()?, self.tables.lend(), &bytes, now);
-        Ok(self.after("arrive", given, true))
+        self.feed = Some(given.feed);
+        Ok(format!("arrive {} {} {} {}", given.answer, given.used, numbers(&given.feed), given.dropped))
     }
 
     fn frame(&mut self, words: &mut Words<'_>) -> Result<String, String> {
@@ -161,7 +162,8 @@ impl Desk {
         words.end()?;
         let frame = raw::arrive_frame(self.feed()?, self.tables.lend(), &bytes, allowed, now);
         self.feed = Some(frame.feed);
-        Ok(format!("frame {} {} {} {}", frame.answer, frame.accepted, frame.used, numbers(&frame.feed)))
+        let counts = format!("{} {} {}", frame.answer, frame.accepted, frame.used);
+        Ok(format!("frame {} {} {}", counts, numbers(&frame.feed), frame.dropped))
     }
 
     fn cut(&mut self, words: &mut Words<'_>) -> Result<String, String> {
@@ -169,7 +171,7 @@ impl Desk {
         let message = words.bytes("BYTES")?;
         words.end()?;
         let given = raw::arrive_cut(self.feed()?, self.tables.lend(), seq, internal, &message, now);
-        Ok(self.after("cut", given, false))
+        Ok(format!("{} {}", self.after("cut", given), given.dropped))
     }
 
     /// A new holding buffer: nothing waits and nothing is dropped.
@@ -221,10 +223,10 @@ impl Desk {
         words.end()?;
         let before = Scrapped { line: self.line()?, tables: self.tables.clone(), hold: self.hold()?.bytes.clone() };
         let mut after = before.clone();
-        let answers = after.by_units(&bytes, now);
+        let (answers, dropped) = after.by_units(&bytes, now);
         self.scraps += 1;
         if self.scraps % 2 == 0 {
-            at_once(before, &bytes, now, &answers, &after)?;
+            at_once(before, &bytes, now, (&answers, dropped), &after)?;
         }
         let line = after.line;
         self.tables = after.tables;
@@ -232,7 +234,7 @@ impl Desk {
         self.goes_on(line)?;
         let listed: Vec<String> = answers.iter().map(u64::to_string).collect();
         let listed = if listed.is_empty() { "-".to_string() } else { listed.join(",") };
-        Ok(format!("scrap {} {} {} {}", listed, numbers(&line.feed), line.held, line.dropping))
+        Ok(format!("scrap {} {} {} {} {}", listed, numbers(&line.feed), line.held, line.dropping, dropped))
     }
 
     fn badge(&self, words: &mut Words<'_>) -> Result<String, String> {
@@ -260,18 +262,24 @@ impl Desk {
     }
 }
 
-/// All units of a scrap in one call, where unit by unit they got these answers and ended so.
-fn at_once(mut all: Scrapped, scrap: &[u8], now: u64, answers: &[u64], after: &Scrapped) -> Result<(), String> {
+/// All units of a scrap in one call, where unit by unit they got these answers, dropped so many rows and ended so.
+fn at_once(
+    mut all: Scrapped,
+    scrap: &[u8],
+    now: u64,
+    (answers, dropped): (&[u64], u64),
+    after: &Scrapped,
+) -> Result<(), String> {
     let heard = all.call(scrap, u64::MAX, now);
     let accepted = answers.iter().filter(|&&answer| answer <= 2).count() as u64;
     let refused = answers.last().copied().filter(|&answer| answer > 2);
-    let wanted = (accepted, refused.is_some(), refused.unwrap_or(0), scrap.len() as u64);
-    let got = (heard.accepted, heard.said != 0, heard.answer, heard.used);
+    let wanted = (accepted, refused.is_some(), refused.unwrap_or(0), scrap.len() as u64, dropped);
+    let got = (heard.accepted, heard.said != 0, heard.answer, heard.used, heard.dropped);
     if got == wanted && all == *after {
         return Ok(());
     }
     Err(format!(
-        "scrap: in one call it ends elsewhere than unit by unit: (accepted, said, answer, used) {:?} and {:?}, {:?} and {:?}",
+        "scrap: in one call it ends elsewhere than unit by unit: (accepted, said, answer, used, dropped) {:?} and {:?}, {:?} and {:?}",
         got, wanted, all.line, after.line
     ))
 }
