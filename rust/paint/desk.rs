@@ -1,6 +1,7 @@
 //! What is painted: a line that follows a capture, and a frame of its panels at a time.
 
 use crate::capture::{clock, Capture};
+use crate::fallen::{Tenths, FULL};
 use crate::layout::{layout, Asked, Layout, Size};
 use crate::options::Options;
 use crate::panel::{self, Panel};
@@ -16,13 +17,15 @@ const NAMED: usize = 6;
 pub struct Desk {
     line: Line,
     capture: Capture,
+    /// The tenth rows that the last repaint showed.
+    shown: Tenths,
 }
 
 impl Desk {
     pub fn new(limit: u64, capture: Capture) -> Result<Desk, Refused> {
         let mut line = Line::new(limit, SLOTS)?;
         line.connect(Connect::Fresh, capture.begins())?;
-        Ok(Desk { line, capture })
+        Ok(Desk { line, capture, shown: Tenths::default() })
     }
 
     pub fn begins(&self) -> u64 {
@@ -34,12 +37,25 @@ impl Desk {
         self.capture.ends().saturating_add(self.line.feed().limit()).saturating_add(1)
     }
 
-    /// Everything that has come by this time, in one call at the time of the newest whole unit. What is refused is the end of
-    /// it: the line says so, and why.
-    pub fn hear(&mut self, time: u64) {
+    /// Everything that has come by this time, in one call at the time of the newest whole unit; how many rows it pushed out.
+    /// What is refused is the end of it: the line says so, and why.
+    pub fn hear(&mut self, time: u64) -> u64 {
+        let before = self.line.dropped();
         if let Some((units, sent)) = self.capture.due(time) {
             let _ = self.line.hear_frame(units, u64::MAX, sent);
         }
+        self.line.dropped() - before
+    }
+
+    /// One repaint: what has come by this time, and a frame of it. Where it pushed out rows, a tenth row that the repaint before
+    /// showed is flashed, if its side has ten rows again and none of its price. Where it pushed out none, no row is: one that is
+    /// gone was deleted.
+    pub fn repaint(&mut self, options: &Options, size: Size, time: u64) -> Vec<Text> {
+        let dropped = self.hear(time);
+        let fallen = if dropped > 0 { self.shown.gone(self.line.books()) } else { Tenths::default() };
+        let (frame, shown) = self.painted(options, size, time, &fallen);
+        self.shown = shown;
+        frame
     }
 
     /// Whether nothing can change any more but the time: after Lost and Closed. A line that only drops may still be green.
@@ -49,6 +65,12 @@ impl Desk {
 
     /// A frame no wider and no higher than the size: badge and reason first, then the rest as far as there is room.
     pub fn frame(&self, options: &Options, size: Size, time: u64) -> Vec<Text> {
+        self.painted(options, size, time, &Tenths::default()).0
+    }
+
+    /// A frame with these rows flashed, and the tenth rows that it shows. Neither is anything where sides have fewer rows on the
+    /// screen: the tenth is not among them.
+    fn painted(&self, options: &Options, size: Size, time: u64, fallen: &Tenths) -> (Vec<Text>, Tenths) {
         let mut lines = self.head(size, time);
         let codes = self.codes(options);
         let room = size.lines.saturating_sub(lines.len());
@@ -59,9 +81,14 @@ impl Desk {
             }
             _ => lines.extend(info.into_iter().map(|line| Text::of(line, Style::Plain))),
         }
-        lines.extend(self.panels(&codes[..layout.shown], &layout, time));
+        let codes = &codes[..layout.shown];
+        let (fallen, shown) = match layout.rows {
+            FULL => (fallen.clone(), Tenths::of(self.line.books(), codes.iter().flatten().copied())),
+            _ => Default::default(),
+        };
+        lines.extend(self.panels(codes, &layout, time, &fallen));
         lines.truncate(size.lines);
-        lines.into_iter().map(|line| line.cut(size.columns)).collect()
+        (lines.into_iter().map(|line| line.cut(size.columns)).collect(), shown)
     }
 
     /// The lines of information and the layout of the panels below them, both in the room there is.
@@ -122,11 +149,11 @@ impl Desk {
     }
 
     /// As many panels beside each other as the layout says, the others in bands below.
-    fn panels(&self, codes: &[Option<u64>], layout: &Layout, time: u64) -> Vec<Text> {
+    fn panels(&self, codes: &[Option<u64>], layout: &Layout, time: u64, fallen: &Tenths) -> Vec<Text> {
         let badge = self.line.badge(time);
         let mut lines = Vec::new();
         for band in codes.chunks(layout.across) {
-            let panels = band.iter().map(|&code| Panel::new(&self.line, code, badge));
+            let panels = band.iter().map(|&code| Panel::new(&self.line, code, badge, fallen));
             let (columns, rows, strips) = (layout.columns, layout.rows, layout.strips);
             let columns: Vec<Vec<Text>> = panels.map(|panel| panel.lines(columns, rows, strips)).collect();
             let side_by_side =

@@ -4,6 +4,7 @@
 
 mod capture;
 mod desk;
+mod fallen;
 mod layout;
 mod options;
 mod panel;
@@ -31,8 +32,7 @@ fn paint(options: &Options, desk: &mut Desk) -> std::io::Result<()> {
     let mut out = std::io::stdout();
     let mut time = desk.begins();
     for _ in 0..options.frames {
-        desk.hear(time);
-        output.show(&mut out, &desk.frame(options, output.size(options), time))?;
+        output.show(&mut out, &desk.repaint(options, output.size(options), time))?;
         if desk.is_over() || time > desk.ends() {
             break;
         }

@@ -26,7 +26,9 @@ a book that cannot be read, and 'no book yet' a panel that waits for a code. Und
 there is room for all panels with theirs: nominal (nm) and closing (cl) price, indicative equilibrium price (IEP, ep) and
 its volume (ev), reference price (ref, rf), order imbalance (imbal, im) with B for buyers, S for sellers and N for none,
 lower (lo) and upper (up) price; a dash is what has not come, n/a what the exchange says there is not. Under a stale
-badge rows, strips and the words 'empty book' are marked with ~.
+badge rows, strips and the words 'empty book' are marked with ~. Where ten rows a side are shown, a tenth row that a new
+level has pushed out since the frame before is shown once more, behind the one that is the tenth now: marked with !, in
+reverse colours, for one frame, in the place of a border. A row that was deleted is not.
 ";
 
 /// Panels where none are asked for.

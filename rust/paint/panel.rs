@@ -1,8 +1,10 @@
-//! A panel: one book between borders, offers over bids, its price strip under them, the badge in its corner.
+//! A panel: one book between borders, offers over bids, its price strip under them, the badge in its corner. A row that fell
+//! off its side is flashed behind the tenth one, where a border gives way to it: no other row moves.
 
+use crate::fallen::Tenths;
 use crate::strip::{self, Shown};
 use crate::text::{Style, Text};
-use mmdh::{Answer, Badge, Line, Refused, Row};
+use mmdh::{Answer, Badge, Line, Refused, Row, Side};
 
 /// Columns of price, quantity and orders; a narrow panel leaves the later ones out.
 pub type Columns = &'static [usize];
@@ -10,7 +12,7 @@ pub type Columns = &'static [usize];
 /// From the widest; only the first has room for quantities written out.
 pub const COLUMNS: [Columns; 4] = [&[11, 13, 7], &[9, 6, 4], &[9, 6], &[9]];
 
-/// The mark before a row: its side, and whether it is old.
+/// The mark before a row: its side, and whether it is old or fell off.
 const MARK: usize = 2;
 
 pub fn width(columns: Columns) -> usize {
@@ -37,10 +39,13 @@ pub struct Panel {
     badge: Badge,
     content: Content,
     strip: Shown,
+    fallen_bid: Option<Row>,
+    fallen_offer: Option<Row>,
 }
 
 impl Panel {
-    pub fn new(line: &Line, code: Option<u64>, badge: Badge) -> Panel {
+    /// The panel of a code, with those of its rows flashed that fell off.
+    pub fn new(line: &Line, code: Option<u64>, badge: Badge, fallen: &Tenths) -> Panel {
         let books = line.books();
         let content = match code.map(|code| (books.bids(code), books.offers(code))) {
             None => Content::Missing("no book yet"),
@@ -49,13 +54,20 @@ impl Panel {
             Some((Err(refused), _) | (_, Err(refused))) => Content::Missing(no_book(refused)),
         };
         let strip = Shown::of(code.map(|code| line.strips().strip(code)), badge);
-        Panel { code, badge, content, strip }
+        let (fallen_bid, fallen_offer) = (fallen.row(code, Side::Bid), fallen.row(code, Side::Offer));
+        Panel { code, badge, content, strip, fallen_bid, fallen_offer }
     }
 
     /// The panel's lines, with so many rows a side, and with the strip or without.
     pub fn lines(&self, columns: Columns, rows: usize, strip: bool) -> Vec<Text> {
         let inside = width(columns) - 2;
-        let mut lines = vec![rule('┌', inside, '┐'), framed(self.title(inside))];
+        let flashed = |row: &Row, mark, style| framed(marked(columns, mark, row, style));
+        let title = framed(self.title(inside));
+        let mut lines = match &self.fallen_offer {
+            Some(row) => vec![title, flashed(row, "O!", Style::FallenOffer)],
+            None => vec![rule('┌', inside, '┐'), title],
+        };
+        let fallen_bid = self.fallen_bid.as_ref().map(|row| flashed(row, "B!", Style::FallenBid));
         match &self.content {
             Content::Rows { bids, offers } => {
                 lines.extend((0..rows).rev().map(|at| framed(self.row(columns, offers.get(at), Style::Offer))));
@@ -66,10 +78,12 @@ impl Panel {
             Content::Missing(why) => lines.extend(words(rows, inside, why, false)),
         }
         if strip {
-            lines.push(rule('├', inside, '┤'));
+            lines.push(fallen_bid.unwrap_or_else(|| rule('├', inside, '┤')));
             lines.extend(self.strip.texts(inside).into_iter().map(framed));
+            lines.push(rule('└', inside, '┘'));
+        } else {
+            lines.push(fallen_bid.unwrap_or_else(|| rule('└', inside, '┘')));
         }
-        lines.push(rule('└', inside, '┘'));
         lines
     }
 
@@ -95,10 +109,15 @@ impl Panel {
             None => Text::of(" ".repeat(width(columns) - 2), Style::Plain),
             Some(row) => {
                 let mark = format!("{}{}", mark, if old { "~" } else { " " });
-                Text::of(mark + &cells(columns, row) + " ", if old { Style::Old } else { style })
+                marked(columns, &mark, row, if old { Style::Old } else { style })
             }
         }
     }
+}
+
+/// A row behind its mark.
+fn marked(columns: Columns, mark: &str, row: &Row, style: Style) -> Text {
+    Text::of(format!("{}{} ", mark, cells(columns, row)), style)
 }
 
 /// A badge as a word, or as a letter where there is not room for so many signs.

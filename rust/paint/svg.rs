@@ -59,7 +59,7 @@ fn stroke(sign: char, left: usize, top: usize) -> String {
     }
 }
 
-/// Words in their cells, over the badge's colour where they are one.
+/// Words in their cells, over a colour where they are a badge or flashed.
 fn words(span: &Span, left: usize, top: usize) -> String {
     let cells = |text: &str| CELL * text.chars().count();
     let back = behind(span.style).map_or(String::new(), |back| {
@@ -85,17 +85,20 @@ fn look(style: Style) -> (&'static str, &'static str) {
         Style::Bid => ("#79b8ff", ""),
         Style::Offer => ("#e3b341", ""),
         Style::Old => ("#6e7681", " text-decoration=\"line-through\""),
+        Style::FallenBid | Style::FallenOffer => ("#14181d", ""),
         Style::Corner(Badge::Filling) => ("#14181d", ""),
         Style::Corner(_) => ("#ffffff", ""),
     }
 }
 
-/// The colour behind a badge.
+/// The colour behind a badge, and behind a row that is flashed.
 fn behind(style: Style) -> Option<&'static str> {
     match style {
         Style::Corner(Badge::Stale) => Some("#b62324"),
         Style::Corner(Badge::Green) => Some("#238636"),
         Style::Corner(Badge::Filling) => Some("#e3b341"),
+        Style::FallenBid => Some("#79b8ff"),
+        Style::FallenOffer => Some("#e3b341"),
         _ => None,
     }
 }

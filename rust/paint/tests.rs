@@ -7,7 +7,7 @@ use crate::options::Options;
 use crate::svg::picture;
 use crate::text::{Style, Text};
 use exchange::{book_message, closing, equilibrium, header, imbalance, message, nominal, reference, session, unit};
-use exchange::{Entry, CLEAR};
+use exchange::{Entry, CHANGE, CLEAR, DELETE};
 use mmdh::Badge;
 
 /// The morning, as far as it had come so many milliseconds after its first unit.
@@ -166,14 +166,19 @@ fn no_book_is_told_from_an_empty_book() {
 
 /// A desk that is live at 0 and then gets a message each millisecond, as far as it had come by a time.
 fn live(messages: &[Vec<u8>], time: u64) -> Desk {
+    let mut desk = to_come(messages);
+    desk.hear(time);
+    desk
+}
+
+/// The same before anything has come.
+fn to_come(messages: &[Vec<u8>]) -> Desk {
     let mut bytes = [unit(1, 0, &message(1105, 4)), unit(2, 0, &session(1102, 0))].concat();
     for (message, at) in messages.iter().zip(1..) {
         bytes.extend(header(at + 2, at, message.len(), u64::from(at) * 1_000_000));
         bytes.extend(message);
     }
-    let mut desk = Desk::new(3_000, Capture::new(bytes)).expect("listed");
-    desk.hear(time);
-    desk
+    Desk::new(3_000, Capture::new(bytes)).expect("listed")
 }
 
 /// An emptied book (NoEntries 0) keeps its panel, with code and badge, and shows none of its old rows. A code without a book
@@ -206,6 +211,212 @@ fn the_emptied_books_of_the_morning() {
         assert!(!emptied(filled, code) && emptied(empty, code), "{}", code);
     }
     assert!(!emptied(60_000, "66") && !emptied(60_000, "27"), "filled again");
+}
+
+/// An entry of a side, 0 bids and 1 offers; its quantity is its price.
+fn entry(action: u8, side: u16, level: u8, price: i32) -> Entry {
+    Entry { quantity: price as u64, price, orders: 7, side, level, action }
+}
+
+/// A message that makes a book of so many rows a side: bids from 1.000 down, offers from 2.000 up, in steps of 10.
+fn filled(code: u32, rows: u8) -> Vec<u8> {
+    let row = |side: u16, level: u8| {
+        let worse = 10 * i32::from(level - 1);
+        entry(0, side, level, if side == 0 { 1_000 - worse } else { 2_000 + worse })
+    };
+    let rows: Vec<Entry> = (0..2).flat_map(|side| (1..=rows).map(move |level| row(side, level))).collect();
+    book_message(code, &rows)
+}
+
+const LARGE: Size = Size { columns: 80, lines: 60 };
+
+/// A repaint after each message, on a screen with room for ten rows a side.
+fn repaints(messages: &[Vec<u8>], words: &str) -> Vec<Vec<Text>> {
+    let mut desk = to_come(messages);
+    (0..=messages.len() as u64).map(|time| desk.repaint(&asked(words), LARGE, time)).collect()
+}
+
+/// The rows that a frame flashes, each from its mark on.
+fn flashed(frame: &[Text]) -> Vec<String> {
+    let fallen = |style| matches!(style, Style::FallenBid | Style::FallenOffer);
+    let spans = frame.iter().flat_map(|line| &line.spans).filter(|span| fallen(span.style));
+    spans.map(|span| span.text.split_whitespace().collect::<Vec<_>>().join(" ")).collect()
+}
+
+/// The row that the last message makes a frame flash, behind a frame with both sides of 5 full.
+fn flash(entries: &[Entry]) -> Vec<String> {
+    let frames = repaints(&[filled(5, 10), book_message(5, entries)], "--codes 5");
+    assert!(flashed(&frames[0]).is_empty() && flashed(&frames[1]).is_empty());
+    flashed(&frames[2])
+}
+
+#[test]
+fn a_row_that_falls_off_is_flashed_for_one_repaint() {
+    for (side, old, mark) in [(0, "B! 0.910 910 7", "|B!"), (1, "O! 2.090 2,090 7", "|O!")] {
+        for level in [1, 5, 10] {
+            let worse = 10 * i32::from(level - 1) - 5;
+            let new = entry(0, side, level, if side == 0 { 1_000 - worse } else { 2_000 + worse });
+            let nothing = nominal(5, 1_500);
+            let frames = repaints(&[filled(5, 10), book_message(5, &[new]), nothing], "--codes 5");
+            let shown: Vec<Vec<String>> = frames.iter().map(|frame| flashed(frame)).collect();
+            assert_eq!(shown, [vec![], vec![], vec![old.to_string()], vec![]], "level {}", level);
+            // behind the side: under the tenth bid, over the tenth offer
+            let painted = plain(&frames[2]);
+            let at = painted.iter().position(|line| line.contains(mark)).expect("the row");
+            let beside = if side == 0 { at - 1 } else { at + 1 };
+            let place = |mark: &str| painted.iter().position(|line| line.contains(mark));
+            let last = painted.iter().rposition(|line| line.contains("|B "));
+            assert_eq!(Some(beside), if side == 0 { last } else { place("|O ") }, "{:#?}", painted);
+        }
+    }
+}
+
+/// The frame has its size, and no row, strip or badge stands elsewhere than without: borders give way.
+#[test]
+fn a_flashed_row_moves_no_other() {
+    let new = [entry(0, 0, 1, 1_005), entry(0, 1, 1, 1_995)];
+    for words in ["--codes 5", "--codes 5 --no-strips", "--codes 6,5,7"] {
+        let messages = [filled(5, 10), book_message(5, &new)];
+        let painted = plain(&repaints(&messages, words)[2]);
+        let still = plain(&live(&messages, 2).frame(&asked(words), LARGE, 2));
+        assert_eq!(painted.len(), still.len());
+        let rows = |lines: &[String]| -> Vec<(usize, String)> {
+            let is_row = |line: &String| line.contains("|B ") || line.contains("|O ") || line.contains("nominal");
+            lines.iter().cloned().enumerate().filter(|(_, line)| is_row(line)).collect()
+        };
+        assert_eq!(rows(&painted), rows(&still), "{}", words);
+        assert_eq!(painted.iter().filter(|line| line.contains("|B!") || line.contains("|O!")).count(), 2);
+        assert!(painted.iter().any(|line| line.contains("| 5 ") && line.contains("green")), "{:#?}", painted);
+    }
+}
+
+#[test]
+fn a_row_that_was_deleted_is_not_flashed() {
+    let delete = |side, level| entry(DELETE, side, level, 0);
+    for side in 0..2 {
+        let worst = if side == 0 { 905 } else { 2_095 };
+        assert!(flash(&[delete(side, 10)]).is_empty());
+        // another row takes its place: ten rows again, and still no level pushed it out
+        assert!(flash(&[delete(side, 10), entry(0, side, 10, worst)]).is_empty());
+        // pushed out, and then the side has nine
+        let best = if side == 0 { 1_005 } else { 1_995 };
+        assert!(flash(&[entry(0, side, 1, best), delete(side, 1)]).is_empty());
+    }
+    assert!(flash(&[entry(CHANGE, 0, 10, 910)]).is_empty());
+}
+
+#[test]
+fn a_book_that_was_cleared_or_emptied_flashes_nothing() {
+    let clear = Entry { action: CLEAR, ..Entry::default() };
+    assert!(flash(&[clear]).is_empty());
+    assert!(flash(&[]).is_empty());
+    // one row was pushed out before
+    assert!(flash(&[entry(0, 0, 1, 1_005), clear]).is_empty());
+    assert!(flash(&[entry(0, 0, 1, 1_005), clear, entry(0, 0, 1, 50)]).is_empty());
+}
+
+#[test]
+fn only_what_was_shown_is_flashed() {
+    let new = |level, price| book_message(5, &[entry(0, 0, level, price)]);
+    // nine rows: the new one is the tenth, and the next pushes out the ninth of before
+    let frames = repaints(&[filled(5, 9), new(1, 1_005), new(1, 1_010)], "--codes 5");
+    assert_eq!([2, 3].map(|at| flashed(&frames[at])), [vec![], vec!["B! 0.920 920 7".to_string()]]);
+    // three in one repaint: the tenth row that was shown, and none of those that came and went between
+    let three = [entry(0, 0, 10, 911), entry(0, 0, 10, 912), entry(0, 0, 10, 913)];
+    assert_eq!(flash(&three), ["B! 0.910 910 7"]);
+    // it was pushed out and is the tenth again
+    assert!(flash(&[entry(0, 0, 10, 915), entry(DELETE, 0, 10, 0), entry(0, 0, 10, 910)]).is_empty());
+    // the first frame, and one that is painted alone
+    let messages = [filled(5, 10), new(1, 1_005)];
+    assert!(flashed(&to_come(&messages).repaint(&asked("--codes 5"), LARGE, 2)).is_empty());
+    assert!(flashed(&live(&messages, 2).frame(&asked("--codes 5"), LARGE, 2)).is_empty());
+}
+
+#[test]
+fn a_side_that_does_not_show_its_tenth_row_flashes_none() {
+    let messages = [filled(5, 10), book_message(5, &[entry(0, 0, 1, 1_005)])];
+    let painted = |words: &str, before: Size, after: Size| {
+        let mut desk = to_come(&messages);
+        desk.repaint(&asked(words), before, 1);
+        flashed(&desk.repaint(&asked(words), after, 2)).len()
+    };
+    let small = Size { columns: 80, lines: 20 };
+    assert_eq!(painted("--codes 5", LARGE, LARGE), 1);
+    assert_eq!(painted("--codes 5 --rows 9", LARGE, LARGE), 0);
+    assert_eq!([painted("--codes 5", small, LARGE), painted("--codes 5", LARGE, small)], [0, 0]);
+    assert_eq!(painted("--codes 6", LARGE, LARGE), 0);
+}
+
+/// Every panel for itself, both sides at once; what another book drops makes no row of this one flash that stands.
+#[test]
+fn each_panel_flashes_its_own_rows() {
+    let both = [entry(0, 0, 3, 985), entry(0, 1, 9, 2_075)];
+    let messages = [filled(5, 10), filled(6, 10), filled(7, 10), book_message(6, &both)];
+    let frames = repaints(&messages, "--codes 5,6,7");
+    assert_eq!(flashed(&frames[4]), ["O! 2.090 2,090 7", "B! 0.910 910 7"]);
+    // panels of 36 columns, two beside each other: 6 is the second
+    let painted = plain(&frames[4]);
+    let flashes = painted.iter().filter_map(|line| line.find("|B!").or_else(|| line.find("|O!")));
+    assert_eq!(flashes.collect::<Vec<_>>(), [36, 36]);
+    assert!(painted.iter().take(30).any(|line| line.find("| 6 ") == Some(36)), "{:#?}", painted);
+}
+
+/// What was accepted before a refusal pushed out its rows all the same.
+#[test]
+fn rows_fall_off_before_a_refusal_too() {
+    let new = book_message(5, &[entry(0, 0, 1, 1_005)]);
+    let mut desk = to_come(&[filled(5, 10), new.clone(), new]);
+    desk.repaint(&asked("--codes 5"), LARGE, 1);
+    let frame = desk.repaint(&asked("--codes 5"), LARGE, 3);
+    assert!(plain(&frame)[0].contains("an entry does not fit") && desk.is_over());
+    assert_eq!(flashed(&frame), ["B! 0.910 910 7"]);
+}
+
+/// Reversed on a terminal, on a ground of its side's colour in a picture.
+#[test]
+fn a_flashed_row_is_seen_on_a_terminal_and_in_a_picture() {
+    let new = [entry(0, 0, 1, 1_005), entry(0, 1, 1, 1_995)];
+    let frame = &repaints(&[filled(5, 10), book_message(5, &new)], "--codes 5")[2];
+    let escaped: String = frame.iter().map(Text::escaped).collect();
+    assert!(escaped.contains("\x1b[7;94mB!") && escaped.contains("\x1b[7;33mO!"));
+    let drawn = picture(frame, LARGE);
+    for (mark, colour) in [("B!", "#79b8ff"), ("O!", "#e3b341")] {
+        let at = drawn.find(&format!(">{}", mark)).expect("the row's words");
+        let ground = drawn[..at].lines().rev().nth(1).expect("what is drawn before them");
+        assert!(ground.starts_with("<rect ") && ground.contains(colour), "{}", ground);
+    }
+}
+
+/// In a morning of repaints every row that is flashed was the tenth of its side in the frame before, and is gone.
+#[test]
+fn the_rows_that_fall_off_in_the_morning() {
+    let bytes = std::fs::read("../../captures/morning.bin").expect("the capture");
+    let count: usize = [1, 3, 5, 11, 16].iter().map(|code| fallen_of(&bytes, &format!("--codes {}", code))).sum();
+    assert!(count > 5, "{} rows", count);
+}
+
+/// How many rows of one book are flashed in the morning.
+fn fallen_of(bytes: &[u8], words: &str) -> usize {
+    let mut desk = Desk::new(3_000, Capture::new(bytes.to_vec())).expect("listed");
+    let (mut time, mut before, mut count) = (desk.begins(), Vec::new(), 0);
+    let rows = |lines: &[String], mark: &str| -> Vec<String> {
+        lines.iter().filter_map(|line| Some(line.strip_prefix(mark)?.to_string())).collect()
+    };
+    while time < desk.ends() {
+        let now = plain(&desk.repaint(&asked(words), Size { columns: 27, lines: 40 }, time));
+        for (mark, fallen) in [("|B ", "|B!"), ("|O ", "|O!")] {
+            for row in rows(&now, fallen) {
+                let shown = rows(&before, mark);
+                let tenth = if mark == "|B " { shown.last() } else { shown.first() };
+                assert_eq!((shown.len(), tenth), (10, Some(&row)), "{:#?}", now);
+                assert!(rows(&now, mark).len() == 10 && !rows(&now, mark).contains(&row), "{:#?}", now);
+                count += 1;
+            }
+        }
+        before = now;
+        time += 100;
+    }
+    count
 }
 
 /// However many frames come before it, a frame shows the same: each takes what was sent since the one before.

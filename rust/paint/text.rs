@@ -12,6 +12,9 @@ pub enum Style {
     Offer,
     /// A row that is not to be quoted from.
     Old,
+    /// A row that a new level pushed out of its side.
+    FallenBid,
+    FallenOffer,
     Corner(Badge),
 }
 
@@ -87,6 +90,8 @@ fn escape(style: Style) -> &'static str {
         Style::Bid => "94",
         Style::Offer => "33",
         Style::Old => "2;9",
+        Style::FallenBid => "7;94",
+        Style::FallenOffer => "7;33",
         Style::Corner(Badge::Stale) => "97;41",
         Style::Corner(Badge::Green) => "30;42",
         Style::Corner(Badge::Filling) => "30;43",
