@@ -92,7 +92,7 @@ fn a_new_level_pushes_out_the_tenth_row_at_any_rank_of_either_side() {
                 let message = book_message(700, &[new(way, level)]);
                 let heard = line.hear(&unit(4, 2, &message), 5_001).expect("accepted");
                 assert_eq!(heard.dropped, u64::from(rows == 10), "{} rows, rank {}", rows, level);
-                let kept = line.books().side(700, side).expect("a side").iter().any(|row| *row == last);
+                let kept = line.books().side(700, side).expect("a side").contains(&last);
                 assert_eq!(kept, rows < 10, "the row itself, {} rows, rank {}", rows, level);
             }
         }
@@ -213,7 +213,7 @@ fn a_line_counts_messages_that_another_box_cuts() {
     let mut line = line(10);
     for ((answer, _, unit), seq) in units().into_iter().zip(4..) {
         let heard = line.hear_cut(seq, seq - 2, &unit[20..], 5_001);
-        assert_eq!(heard.map_or_else(|refused| refused.answer(), |answer| answer).number(), answer);
+        assert_eq!(heard.unwrap_or_else(|refused| refused.answer()).number(), answer);
     }
     assert_eq!(line.dropped(), ALL);
 }
