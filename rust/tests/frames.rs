@@ -1,7 +1,7 @@
 //! Whole frames (request 3 of document 02): the library against the twin and against its own single calls. Where one ends and
 //! what it counts is said here too, for streams made by hand.
 
-use crate::fallen;
+use crate::falls;
 use crate::pair::{plain_feed, twin_feed, Pair};
 use crate::scene::{self, SLOT, STRIP};
 use crate::tables::Tables;
@@ -241,8 +241,8 @@ pub fn single(pair: &mut Pair, dice: &mut Dice, tables: &Tables) {
 
 /// Notes what a frame pushed out of these tables, which must be what the rule has.
 pub fn falls(tally: &mut Tally, start: (MmdhFeed, &Tables), stream: (&[u8], u64), given: &MmdhFrame) {
-    let came = fallen::Came { answer: given.answer, accepted: given.accepted, dropped: given.dropped };
-    fallen::note_units(tally, Call::ArriveFrame, start, stream, came);
+    let came = falls::Came { answer: given.answer, accepted: given.accepted, dropped: given.dropped };
+    falls::note_units(tally, Call::ArriveFrame, start, stream, came);
 }
 
 /// The same of the tuned twin against the plain one.

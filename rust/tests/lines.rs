@@ -1,7 +1,7 @@
 //! Scraps at random (request 5 of document 02): single ones on odd lines, any cutting against one piece and against single calls,
 //! and whole runs of a line.
 
-use crate::fallen;
+use crate::falls;
 use crate::frames;
 use crate::history::{History, LIMIT};
 use crate::pair::{by_calls, Pair};
@@ -178,8 +178,8 @@ impl Met<'_> {
 
     /// Notes what was pushed out of these tables, which must be what the rule has.
     fn falls(&self, tally: &mut Tally, tables: &Tables, heard: &MmdhHeard) {
-        let came = fallen::Came { answer: heard.answer, accepted: heard.accepted, dropped: heard.dropped };
-        fallen::note_units(tally, Call::LineScrap, (self.line.feed, tables), (self.bytes, self.time), came);
+        let came = falls::Came { answer: heard.answer, accepted: heard.accepted, dropped: heard.dropped };
+        falls::note_units(tally, Call::LineScrap, (self.line.feed, tables), (self.bytes, self.time), came);
     }
 
     /// Notes the units that were accepted; how many bytes there are behind them.

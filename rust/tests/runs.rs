@@ -1,7 +1,7 @@
 //! Whole runs: many events on one feed and its tables, library and twin each going on with its own.
 
 use crate::emptied::meets;
-use crate::fallen;
+use crate::falls;
 use crate::frames::{self, HEARTBEAT};
 use crate::history::{History, LIMIT};
 use crate::pair::{by_calls, plain_feed, plain_frame, plain_given, Pair};
@@ -66,7 +66,7 @@ impl Run {
         if dice.once_in(10) {
             let met = self.met(&message);
             let ours = raw::arrive_cut(self.feed, self.tables.lend(), seq, internal, &message, time);
-            fallen::note(&mut pair.tally, Call::ArriveCut, &self.twin_tables.books, &message, &ours);
+            falls::note(&mut pair.tally, Call::ArriveCut, &self.twin_tables.books, &message, &ours);
             let twins = twin::arrive_cut(self.twin_feed, self.twin_tables.lend_twin(), seq, internal, &message, time);
             self.note(pair, met, &ours);
             return self.arrived(pair, Call::ArriveCut, ours, twins, &message, time);
@@ -74,7 +74,7 @@ impl Run {
         let message = bytes.get(20..).unwrap_or(&[]);
         let met = self.met(message);
         let ours = raw::arrive(self.feed, self.tables.lend(), &bytes, time);
-        fallen::note(&mut pair.tally, Call::Arrive, &self.twin_tables.books, message, &ours);
+        falls::note(&mut pair.tally, Call::Arrive, &self.twin_tables.books, message, &ours);
         let twins = twin::arrive(self.twin_feed, self.twin_tables.lend_twin(), &bytes, time);
         self.note(pair, met, &ours);
         self.arrived(pair, Call::Arrive, ours, twins, message, time);

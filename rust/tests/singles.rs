@@ -1,7 +1,7 @@
 //! Single calls and single frames on random feeds, tables, bytes and times.
 
 use crate::emptied::meets;
-use crate::fallen;
+use crate::falls;
 use crate::frames;
 use crate::pair::Pair;
 use crate::scene::{self, SLOT, STRIP, STRIPS};
@@ -155,7 +155,7 @@ fn arrival(pair: &mut Pair, dice: &mut Dice, tables: &Tables) {
 
 /// Notes what a message met.
 fn note(pair: &mut Pair, (call, feed): (Call, &MmdhFeed), tables: &Tables, message: &[u8], given: &MmdhGiven) {
-    fallen::note(&mut pair.tally, call, &tables.books, message, given);
+    falls::note(&mut pair.tally, call, &tables.books, message, given);
     pair.tally.emptying(feed.phase, meets(&tables.books, message), given);
     pair.tally.strip(feed.phase, strips::meets(&tables.strips, message), given);
 }
