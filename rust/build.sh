@@ -23,9 +23,10 @@ usage: bash rust/build.sh PART
   bench [--short]   nanoseconds a message of the library, the plain twin and the tuned one, taking turns: book messages at
                     128, 512 and 4,096 slots, strip messages at 128, book messages in frames of 32 against single calls; of
                     the library in scraps, whole messages and torn ones, against single calls; and a repaint by sides
-                    against single reads. --short only looks whether all three end with the same tables, by single calls and
-                    by frames, the library in scraps too, and both repaints show the same. On Arm the library's own code is
-                    compiled for Arm, and no emulator runs; the library is proved first where it is not yet
+                    against single reads. --short only looks whether all three end with the same tables and as many rows
+                    dropped, by single calls and by frames, the library in scraps too, and both repaints show the same. On
+                    Arm the library's own code is compiled for Arm, and no emulator runs; the library is proved first where
+                    it is not yet
   count [SLOTS..]   x86-64 instructions a message of the same three, under an emulator; about ten minutes. 'strips' for
                     strip messages alone
   env               the settings with which cargo builds for the archive, as lines for a shell
