@@ -157,7 +157,7 @@ unfolding feed-Answers.number feed-Answers.arrives feed-Answers.lacksNeed feed-A
 feed-answers = 0
 
 unfoldable feed-code-judging : ℕ
-unfolding feed-Code-Judging.onTables
+unfolding feed-Code-Judging.beats feed-Code-Judging.onTables
 feed-code-judging = 0
 
 unfoldable feed-events : ℕ
