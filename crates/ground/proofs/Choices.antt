@@ -1,12 +1,14 @@
 -- Laws of the lists of specs/Choice. Assumes nothing.
-use Prim.Native.Nat.{ℕ, zero, suc, _<_}
+use Prim.Native.Nat.{ℕ, zero, suc, _+_, _<_}
 use native.Mathlib.Nat.{le-of-suc-le-suc, not-suc-le-zero}
+use native.Mathlib.Numerals.{add-one}
 use mathlib.Core.Path.{_≡_, refl, sym, ap, subst}
 use mathlib.Core.Bool.{Bool, true, false, cond, not, _&&_, _||_}
 use mathlib.Core.List.{List, [], _∷_, _++_}
 use lib.Dec.{T, eqb, eqb→eq}
-use lib.ListN.{length, getD, set}
-use Rattle.ground.specs.Choice.{oneOf, pick, first, all}
+use lib.ListN.{length, drop, getD, set}
+use lib.Seq.{drop-cons}
+use Rattle.ground.specs.Choice.{oneOf, pick, first, all, any}
 use Rattle.ground.proofs.Bools.{both, join, two, pair}
 
 -- tests in order, each of which has the property beside it or does not pass: what is picked has the property
@@ -136,3 +138,8 @@ pick-other {A} g x (p ∷ ps) other h n = go (eqb x (p .0)) (g (p .1)) refl h n 
     go b true e h n rest = absurd n
     go true false e h n rest = absurd (subst (λ (x : Bool). T x) (sym e) h)
     go false false e h n rest = rest h n
+
+-- a test passes somewhere from the i-th element on: at that one, or behind it
+pub any-step : {A : Type 0} (f : A → Bool) (l : List A) (i : ℕ) (d : A) → i < length l → any f (drop i l) ≡ f (getD l i d) || any f (drop (i + 1) l)
+unfolding any
+any-step f l i d h = rw (drop-cons l i d h, add-one i)

@@ -23,3 +23,15 @@ first (t ∷ ts) other = cond (t .0) (t .1) (first ts other)
 unfoldable pub all : {A : Type 0} → (A → Bool) → List A → Bool
 all f [] = true
 all f (x ∷ xs) = f x && all f xs
+
+-- a test passes at some element
+unfoldable pub any : {A : Type 0} → (A → Bool) → List A → Bool
+any f [] = false
+any f (x ∷ xs) = f x || any f xs
+
+-- the same numbers, and as many
+unfoldable pub same : List ℕ → List ℕ → Bool
+same [] [] = true
+same [] (y ∷ ys) = false
+same (x ∷ xs) [] = false
+same (x ∷ xs) (y ∷ ys) = eqb x y && same xs ys

@@ -65,7 +65,7 @@ use Rattle.promises.specs.Traps as promises-Traps
 use Rattle.promises.specs.Widths as promises-Widths
 
 unfoldable ground-choice : ℕ
-unfolding ground-Choice.oneOf ground-Choice.pick ground-Choice.first ground-Choice.all
+unfolding ground-Choice.oneOf ground-Choice.pick ground-Choice.first ground-Choice.all ground-Choice.any ground-Choice.same
 ground-choice = 0
 
 unfoldable wire-codes : ℕ
@@ -205,7 +205,7 @@ unfolding promises-Build.bytes promises-Build.joined promises-Build.header promi
 promises-build = 0
 
 unfoldable promises-checks : ℕ
-unfolding promises-Checks.wrong promises-Checks.sameWords promises-Checks.sameFeed promises-Checks.sameGiven promises-Checks.sameBadges promises-Checks.sameEnd promises-Checks.runs promises-Checks.sameNumber promises-Checks.reads promises-Checks.sameLevels promises-Checks.readsSide
+unfolding promises-Checks.wrong promises-Checks.sameFeed promises-Checks.sameGiven promises-Checks.sameBadges promises-Checks.sameEnd promises-Checks.runs promises-Checks.sameNumber promises-Checks.reads promises-Checks.sameLevels promises-Checks.readsSide
 promises-checks = 0
 
 unfoldable promises-decisions : ℕ

@@ -5,6 +5,7 @@ use mathlib.Core.Bool.{Bool, true, false, cond, _&&_, Bool·beq}
 use mathlib.Core.List.{List, [], _∷_}
 use lib.IntN.{ℤ, pos, negsuc}
 use lib.Dec.{eqb}
+use Rattle.ground.specs.Choice.{same}
 use Rattle.books.specs.Reading.{readRow, readSide}
 use Rattle.books.specs.declared.Level.{Level}
 use Rattle.books.specs.declared.RowRead.{RowRead}
@@ -24,13 +25,6 @@ pub record Check : Type 0 where
 unfoldable pub wrong : List Check → List String
 wrong [] = []
 wrong (c ∷ cs) = cond (c .holds) (wrong cs) (c .name ∷ wrong cs)
-
--- the same words, and as many
-unfoldable pub sameWords : List ℕ → List ℕ → Bool
-sameWords [] [] = true
-sameWords [] (y ∷ ys) = false
-sameWords (x ∷ xs) [] = false
-sameWords (x ∷ xs) (y ∷ ys) = eqb x y && sameWords xs ys
 
 unfoldable pub sameFeed : Feed → Feed → Bool
 sameFeed f g =
@@ -59,7 +53,7 @@ sameBadges f [] = true
 sameBadges f (b ∷ bs) = eqb (badgeNo (badgeOf f (b .0))) (b .1) && sameBadges f bs
 
 unfoldable pub sameEnd : State → End → Bool
-sameEnd s e = sameFeed (s .feed) (e .feed) && sameWords (s .tables .books) (e .words) && sameWords (s .tables .strips) (e .strips) && sameBadges (s .feed) (e .badges)
+sameEnd s e = sameFeed (s .feed) (e .feed) && same (s .tables .books) (e .words) && same (s .tables .strips) (e .strips) && sameBadges (s .feed) (e .badges)
 
 -- calls one after the other from a state, each answered as told, and the end as told
 unfoldable pub runs : State → List Call → End → Bool

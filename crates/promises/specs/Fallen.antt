@@ -6,6 +6,7 @@ use mathlib.Core.List.{List, [], _∷_, _++_}
 use mathlib.Core.Option.{Option, none, some}
 use lib.ListN.{length, take, drop, replicate}
 use lib.Dec.{eqb}
+use Rattle.ground.specs.Choice.{same}
 use Rattle.ladder.specs.Message.{entryAt}
 use Rattle.ladder.specs.Walk.{fellOff}
 use Rattle.ladder.specs.Words.{bookOf, rowWords}
@@ -15,7 +16,7 @@ use Rattle.feed.specs.Frames.{Framed, framed}
 use Rattle.feed.specs.declared.Phase.the-variants.{Refreshing, Live, Lost}
 use Rattle.feed.specs.declared.Feed.{Feed}
 use Rattle.lines.specs.Scraps.{Hearing}
-use Rattle.promises.specs.Checks.{Check, sameFeed, sameWords}
+use Rattle.promises.specs.Checks.{Check, sameFeed}
 use Rattle.promises.specs.Build.{unit, heartbeat, entry, bookMessage, row, block, feed, both, arrives, gets, dropping}
 use Rattle.promises.specs.Answering.{oneCall, fed, lost, spoilt, heard}
 use Rattle.promises.specs.Strips.{nominal, free}
@@ -39,7 +40,7 @@ rowOut none = []
 rowOut (some r) = rowWords r
 
 unfoldable pub falls : String → List (List ℕ) → List (List ℕ) → List ℕ → List ℕ → Check
-falls name bids offers e told = record { name = name; holds = sameWords (rowOut (fellOff (entryAt 0 e) (bookOf (block 700 bids offers)))) told }
+falls name bids offers e told = record { name = name; holds = same (rowOut (fellOff (entryAt 0 e) (bookOf (block 700 bids offers)))) told }
 
 unfoldable pub entries : List Check
 entries =
@@ -149,7 +150,7 @@ frame name bytes allowed answer accepted n f words =
       name = name;
       holds =
           eqb (o .frame .answer) answer && eqb (o .frame .accepted) accepted && eqb (o .frame .dropped) n
-          && sameFeed (o .frame .feed) f && sameWords (o .tables .books) words;
+          && sameFeed (o .frame .feed) f && same (o .tables .books) words;
     }
 
 unfoldable pub live : ℕ → ℕ → Feed
@@ -177,7 +178,7 @@ numbers x hold (s ∷ ss) =
 unfoldable pub scraps : String → List (List ℕ) → List ℕ → Check
 scraps name ss told = record {
   name = name;
-  holds = sameWords (numbers (lined (record { feed = fed Live; held = 0; dropping = false }) (record { books = full; strips = free })) (room 200) ss) told;
+  holds = same (numbers (lined (record { feed = fed Live; held = 0; dropping = false }) (record { books = full; strips = free })) (room 200) ss) told;
 }
 
 unfoldable pub pieces : List Check

@@ -5,7 +5,7 @@ use mathlib.Core.Bool.{Bool, true, false, not, _&&_, Bool·beq}
 use mathlib.Core.List.{List, [], _∷_, _++_}
 use lib.ListN.{take, replicate}
 use lib.Dec.{eqb}
-use Rattle.ground.specs.Choice.{all}
+use Rattle.ground.specs.Choice.{all, same}
 use Rattle.ladder.specs.Walk.{emptyBook}
 use Rattle.ladder.specs.Words.{wordsOf}
 use Rattle.strips.specs.Words as strip
@@ -13,7 +13,7 @@ use Rattle.strips.specs.Words.{emptyStrip}
 use Rattle.feed.specs.Events.{State, Event, Connect, Arrive, Cut}
 use Rattle.feed.specs.declared.Link.{Link}
 use Rattle.feed.specs.declared.Link.the-variants.{Fresh, Resuming}
-use Rattle.promises.specs.Checks.{Check, sameWords}
+use Rattle.promises.specs.Checks.{Check}
 use Rattle.promises.specs.Build.{unit, heartbeat, message, sendKey, logon, logout, refresh, complete, entry, bookMessage, row, block}
 use Rattle.promises.specs.Strips.{nominal, imbalance, closing, strip as stripOf}
 use Rattle.promises.specs.Runs.{Sizes, zeroed, start, History, endOf, tale, isGreen, green, replay, replayOn, replayStrip}
@@ -112,7 +112,7 @@ keeps name es came met base numbers whole =
     let l : Ledger = ledger (start 1000 wordsOfOne) es in
     record {
       name = name;
-      holds = sameWords (l .came) came && sameWords (l .met) met && eqb (l .base) base && sameWords (l .numbers) numbers && Bool·beq (l .whole) whole;
+      holds = same (l .came) came && same (l .met) met && eqb (l .base) base && same (l .numbers) numbers && Bool·beq (l .whole) whole;
     }
 
 -- the day, after a fresh connect; then a resumed connection
@@ -141,12 +141,12 @@ sameTimes s h (p ∷ ps) = Bool·beq (green h 1000 (p .0)) (p .1) && Bool·beq (
 
 -- a code's strip by the replay of its messages alone, and both strips as the run has them and as the replay gives them
 unfoldable pub ofStrip : String → List Event → ℕ → List ℕ → Check
-ofStrip name es c words = record { name = name; holds = sameWords (strip.wordsOf c (replayStrip c (tale 1000 wordsOfTwo es .deeds) emptyStrip)) words }
+ofStrip name es c words = record { name = name; holds = same (strip.wordsOf c (replayStrip c (tale 1000 wordsOfTwo es .deeds) emptyStrip)) words }
 
 unfoldable pub stripsAre : String → List Event → List ℕ → Check
 stripsAre name es words = record {
   name = name;
-  holds = sameWords (replay (tale 1000 wordsOfTwo es .deeds) (zeroed wordsOfTwo) .strips) words && sameWords (endOf 1000 wordsOfTwo es .tables .strips) words;
+  holds = same (replay (tale 1000 wordsOfTwo es .deeds) (zeroed wordsOfTwo) .strips) words && same (endOf 1000 wordsOfTwo es .tables .strips) words;
 }
 
 unfoldable pub recounts : String → List Event → List (ℕ × Bool) → Bool → List ℕ → Check
@@ -155,7 +155,7 @@ recounts name es times fresh words =
     let s : State = endOf 1000 wordsOfTwo es in
     record {
       name = name;
-      holds = sameTimes s h times && Bool·beq (h .fresh) fresh && sameWords (replay (h .deeds) (zeroed wordsOfTwo) .books) words && sameWords (s .tables .books) words;
+      holds = sameTimes s h times && Bool·beq (h .fresh) fresh && same (replay (h .deeds) (zeroed wordsOfTwo) .books) words && same (s .tables .books) words;
     }
 
 -- green from a time to the limit after it, and not before nor after; never
@@ -185,7 +185,7 @@ connectsAgain link = Connect link 8000 ∷ Arrive (unit 1 0 sendKey) 8000 ∷ Ar
 
 -- the book of a code, by the replay of its messages alone
 unfoldable pub ofCode : String → List Event → ℕ → List ℕ → Check
-ofCode name es c words = record { name = name; holds = sameWords (wordsOf c (replayOn c (tale 1000 wordsOfTwo es .deeds) emptyBook)) words }
+ofCode name es c words = record { name = name; holds = same (wordsOf c (replayOn c (tale 1000 wordsOfTwo es .deeds) emptyBook)) words }
 
 unfoldable pub twoCodes : List Event
 twoCodes = logonThen 0 (Arrive (unit 3 7 (twoBids 701)) 6000 ∷ Arrive (unit 4 8 (better 700)) 6000 ∷ Arrive (unit 5 9 (better 701)) 6000 ∷ [])

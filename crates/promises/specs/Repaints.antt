@@ -5,12 +5,13 @@ use mathlib.Core.Bool.{Bool, true, false, _&&_, Bool·beq}
 use mathlib.Core.List.{List, [], _∷_, _++_}
 use lib.ListN.{length, take, drop, replicate, set}
 use lib.Dec.{eqb}
+use Rattle.ground.specs.Choice.{same}
 use Rattle.feed.specs.Events.{Event, Connect, Arrive}
 use Rattle.feed.specs.Frames.{Framed, framed}
 use Rattle.feed.specs.declared.Phase.the-variants.{Idle, WaitKey, WaitLogon, Refreshing, Live, Lost, Closed}
 use Rattle.feed.specs.declared.Feed.{Feed}
 use Rattle.feed.specs.declared.Link.the-variants.{Fresh}
-use Rattle.promises.specs.Checks.{Check, sameFeed, sameWords}
+use Rattle.promises.specs.Checks.{Check, sameFeed}
 use Rattle.promises.specs.Build.{unit, heartbeat, message, sendKey, logon, logout, refresh, complete, entry, bookMessage, joined as together, feed, both}
 use Rattle.promises.specs.Answering.{fed, held, fits, misfits, unlisted, both as twoBids}
 use Rattle.promises.specs.Strips.{nominal, strip, word, free}
@@ -31,7 +32,7 @@ pub record Told : Type 0 where
 unfoldable pub tells : Framed → Told → Bool
 tells o t =
     eqb (o .frame .answer) (t .answer) && eqb (o .frame .accepted) (t .accepted) && eqb (o .frame .used) (t .used)
-    && sameFeed (o .frame .feed) (t .feed) && eqb (o .frame .dropped) 0 && sameWords (o .tables .books) (t .words) && sameWords (o .tables .strips) (t .strips)
+    && sameFeed (o .frame .feed) (t .feed) && eqb (o .frame .dropped) 0 && same (o .tables .books) (t .words) && same (o .tables .strips) (t .strips)
 
 -- a feed of next SeqNum 5, last internal number 7, last heard 10, with a bid of 700 and no strip, is handed bytes, a number allowed and a time
 unfoldable pub frame : String → Feed → List ℕ → ℕ → ℕ → Told → Check
@@ -180,7 +181,7 @@ unfoldable pub sameEvents : List Event → List (List ℕ × ℕ) → Bool
 sameEvents [] [] = true
 sameEvents [] (b ∷ bs) = false
 sameEvents (e ∷ es) [] = false
-sameEvents (Arrive bytes time ∷ es) (b ∷ bs) = sameWords bytes (b .0) && eqb time (b .1) && sameEvents es bs
+sameEvents (Arrive bytes time ∷ es) (b ∷ bs) = same bytes (b .0) && eqb time (b .1) && sameEvents es bs
 sameEvents (Event.Connect link time ∷ es) (b ∷ bs) = false
 sameEvents (Event.Cut seq internal m time ∷ es) (b ∷ bs) = false
 sameEvents (Event.Overrun time ∷ es) (b ∷ bs) = false

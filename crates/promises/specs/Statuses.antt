@@ -4,13 +4,13 @@ use Prim.Native.String.{String}
 use mathlib.Core.Bool.{true, false, cond}
 use mathlib.Core.List.{List, [], _∷_}
 use lib.ListN.{replicate}
-use Rattle.ground.specs.Choice.{oneOf}
+use Rattle.ground.specs.Choice.{oneOf, same}
 use Rattle.feed.specs.Events.{Arrive}
 use Rattle.feed.specs.Steps.{outcome}
 use Rattle.feed.specs.declared.Phase.{Phase}
 use Rattle.feed.specs.declared.Phase.the-variants.{WaitKey, WaitLogon, Refreshing, Live, Closed}
 use Rattle.feed.specs.declared.Feed.{Feed}
-use Rattle.promises.specs.Checks.{Check, sameWords}
+use Rattle.promises.specs.Checks.{Check}
 use Rattle.promises.specs.Build.{unit, logon, logout, refresh, feed, state, arrives}
 use Rattle.promises.specs.Answering.{oneCall, fed, spoilt, heard, held}
 
@@ -74,7 +74,7 @@ listedBelow ns (suc n) = cond (oneOf n ns) 0 15 ∷ listedBelow ns n
 
 -- of all 256 statuses
 unfoldable pub all256 : String → Phase → (ℕ → List ℕ) → List ℕ → Check
-all256 name p m ns = record { name = name; holds = sameWords (answersBelow p m 256) (listedBelow ns 256) }
+all256 name p m ns = record { name = name; holds = same (answersBelow p m 256) (listedBelow ns 256) }
 
 unfoldable pub allStatuses : List Check
 allStatuses =

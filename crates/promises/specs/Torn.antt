@@ -6,6 +6,7 @@ use mathlib.Core.Bool.{Bool, true, false, _&&_, Bool·beq}
 use mathlib.Core.List.{List, [], _∷_, _++_}
 use lib.ListN.{length, take, drop, replicate, set}
 use lib.Dec.{eqb}
+use Rattle.ground.specs.Choice.{same}
 use Rattle.feed.specs.Events.{Event, Connect, Arrive, Cut, Overrun}
 use Rattle.feed.specs.declared.Phase.the-variants.{Idle, WaitKey, WaitLogon, Refreshing, Live, Lost, Closed}
 use Rattle.feed.specs.declared.Feed.{Feed}
@@ -14,7 +15,7 @@ use Rattle.feed.specs.declared.Link.the-variants.{Fresh, Resuming}
 use Rattle.lines.specs.Scraps.{Hearing, links}
 use Rattle.lines.specs.declared.Line.{Line}
 use Rattle.lines.specs.declared.Linked.{Linked}
-use Rattle.promises.specs.Checks.{Check, sameFeed, sameWords}
+use Rattle.promises.specs.Checks.{Check, sameFeed}
 use Rattle.promises.specs.Build.{bytes, header, unit, heartbeat, message, sendKey, logon, logout, entry, bookMessage, feed}
 use Rattle.promises.specs.Answering.{fed, lost, spoilt, heard, held as oneBid, fits, misfits, unlisted, both as twoBids}
 use Rattle.promises.specs.Strips.{nominal, strip, word, free}
@@ -76,8 +77,8 @@ pub record Told : Type 0 where
 unfoldable pub tells : Hearing → Told → Bool
 tells y t =
     Bool·beq (y .heard .said) (t .said) && eqb (y .heard .answer) (t .answer) && eqb (y .heard .accepted) (t .accepted) && eqb (y .heard .used) (t .used)
-    && sameLine (y .heard .line) (t .line) && eqb (y .heard .dropped) 0 && sameWords (y .hold) (t .hold) && sameWords (y .tables .books) (t .words)
-    && sameWords (y .tables .strips) (t .strips)
+    && sameLine (y .heard .line) (t .line) && eqb (y .heard .dropped) 0 && same (y .hold) (t .hold) && same (y .tables .books) (t .words)
+    && same (y .tables .strips) (t .strips)
 
 -- no answer to what came last, so many units accepted before it; an answer; both with a bid of 700 and no strip
 unfoldable pub quietAfter : ℕ → ℕ → Line → List ℕ → Told
@@ -450,7 +451,7 @@ ran name acts time shown heard events l words =
       name = name;
       holds =
           Bool·beq (isGreen (stateOn x) time) shown && Bool·beq (green h 1000 time) shown && eqb (h .heard) heard && eqb (length es) events
-          && sameLine (x .line) l && sameWords (x .tables .books) words && sameWords (x .tables .strips) free;
+          && sameLine (x .line) l && same (x .tables .books) words && same (x .tables .strips) free;
     }
 
 -- a heartbeat that comes too early, and is answered 10; a unit too long for the buffer lent with it; one message lost
@@ -521,7 +522,7 @@ unfoldable pub sameSaid : List (Event × ℕ) → List (Event × ℕ) → Bool
 sameSaid [] [] = true
 sameSaid [] (q ∷ qs) = false
 sameSaid (p ∷ ps) [] = false
-sameSaid (p ∷ ps) (q ∷ qs) = sameWords (spelt (p .0)) (spelt (q .0)) && eqb (p .1) (q .1) && sameSaid ps qs
+sameSaid (p ∷ ps) (q ∷ qs) = same (spelt (p .0)) (spelt (q .0)) && eqb (p .1) (q .1) && sameSaid ps qs
 
 -- "cutting a byte run into any scraps, some of them empty, gives the same answers, tables and feed as one piece, up to and including the first refusal":
 -- a feed that waits for the key, last heard at 10, a buffer, the scraps of a run of bytes at a time, and what is seen of the line after them
@@ -538,8 +539,8 @@ cut name hold ss time told =
     record {
       name = name;
       holds =
-          sameSaid (y .said) (told .said) && sameFeed (y .state .feed) (told .feed) && sameWords (y .state .tables .books) (told .words)
-          && sameWords (y .state .tables .strips) free && sameWords (y .waiting) (told .waiting) && Bool·beq (y .dropping) (told .dropping);
+          sameSaid (y .said) (told .said) && sameFeed (y .state .feed) (told .feed) && same (y .state .tables .books) (told .words)
+          && same (y .state .tables .strips) free && same (y .waiting) (told .waiting) && Bool·beq (y .dropping) (told .dropping);
     }
 
 -- so many scraps of n bytes, and the rest
