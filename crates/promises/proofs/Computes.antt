@@ -34,6 +34,7 @@ use Rattle.feed.specs.Reasons as feed-Reasons
 use Rattle.feed.specs.Steps as feed-Steps
 use Rattle.lines.specs.Looks as lines-Looks
 use Rattle.lines.specs.Scraps as lines-Scraps
+use Rattle.password.specs.Rule as password-Rule
 use Rattle.promises.specs.Answering as promises-Answering
 use Rattle.promises.specs.Build as promises-Build
 use Rattle.promises.specs.Checks as promises-Checks
@@ -196,6 +197,10 @@ unfoldable lines-scraps : ℕ
 unfolding lines-Scraps.gathered lines-Scraps.settled lines-Scraps.looked lines-Scraps.once lines-Scraps.onward lines-Scraps.goesOn lines-Scraps.through lines-Scraps.links
 lines-scraps = 0
 
+unfoldable password-rule : ℕ
+unfolding password-Rule.isOf password-Rule.lacks password-Rule.lacksSpecial password-Rule.total password-Rule.badHistory password-Rule.lasts password-Rule.items password-Rule.verdictOf password-Rule.plainVerdict
+password-rule = 0
+
 unfoldable promises-answering : ℕ
 unfolding promises-Answering.oneCall promises-Answering.fed promises-Answering.lost promises-Answering.spoilt promises-Answering.heard promises-Answering.held promises-Answering.broken promises-Answering.taken promises-Answering.fits promises-Answering.misfits promises-Answering.unlisted promises-Answering.both promises-Answering.opens promises-Answering.newFeeds promises-Answering.connects promises-Answering.answers promises-Answering.cuts promises-Answering.order
 promises-answering = 0
@@ -313,5 +318,5 @@ unfolding promises-Widths.widths
 promises-widths = 0
 
 unfoldable pub computes : ℕ
-unfolding bind ground-choice wire-codes wire-number wire-units slots-code-turns slots-layout slots-slots ladder-code-arrays ladder-code-loading ladder-message ladder-sides ladder-walk ladder-words books-code-rows books-code-turns books-reading books-table strips-code-shapes strips-forms strips-reading strips-table strips-words feed-answers feed-code-judging feed-events feed-feeds feed-frames feed-messages feed-program feed-reasons feed-steps lines-looks lines-scraps promises-answering promises-build promises-checks promises-decisions promises-demands promises-desk promises-dropped promises-emptied promises-entries promises-fallen promises-frames promises-goodmorning promises-leaves promises-ledger promises-mornings promises-phases promises-pieces promises-refusals promises-repaints promises-runs promises-scraps promises-section6 promises-sizes promises-statuses promises-strips promises-tables promises-torn promises-traps promises-widths
+unfolding bind ground-choice wire-codes wire-number wire-units slots-code-turns slots-layout slots-slots ladder-code-arrays ladder-code-loading ladder-message ladder-sides ladder-walk ladder-words books-code-rows books-code-turns books-reading books-table strips-code-shapes strips-forms strips-reading strips-table strips-words feed-answers feed-code-judging feed-events feed-feeds feed-frames feed-messages feed-program feed-reasons feed-steps lines-looks lines-scraps password-rule promises-answering promises-build promises-checks promises-decisions promises-demands promises-desk promises-dropped promises-emptied promises-entries promises-fallen promises-frames promises-goodmorning promises-leaves promises-ledger promises-mornings promises-phases promises-pieces promises-refusals promises-repaints promises-runs promises-scraps promises-section6 promises-sizes promises-statuses promises-strips promises-tables promises-torn promises-traps promises-widths
 computes = 0
