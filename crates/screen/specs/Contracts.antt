@@ -8,6 +8,7 @@ use Rattle.feed.specs.Feeds.{newGiven, plainBadge}
 use Rattle.feed.specs.Events.{Tables, Connect}
 use Rattle.feed.specs.Steps.{stateOf, outcome}
 use Rattle.feed.specs.Reasons.{plainWhy}
+use Rattle.password.specs.Rule.{plainVerdict}
 use Rattle.screen.specs.Plain.{plainGiven, plainOut, plainFramedOf, linkOf, feedOf, plainHearing, plainRow, plainSide, plainStrip, version}
 use Rattle.screen.specs.Calls.{Connects, Arrives, ArrivesCut, handsBack, framesBack, linksBack, hearsBack}
 use Rattle.screen.specs.declared.MmdhFeed.{MmdhFeed}
@@ -66,6 +67,10 @@ SideSays t code side r = r ≡ plainSide (readSide code side t)
 -- mmdh_read_strip
 abbrev pub StripSays : List ℕ → ℕ → MmdhStrip → Type 0
 StripSays t code r = r ≡ plainStrip (readStrip code t)
+
+-- mmdh_password: it is lent nothing to write to
+abbrev pub PasswordSays : ℕ → List ℕ → List ℕ → List ℕ → ℕ → Type 0
+PasswordSays edition new lengths history r = r ≡ plainVerdict edition new lengths history
 
 -- mmdh_version
 abbrev pub VersionSays : ℕ → Type 0

@@ -1,6 +1,6 @@
 // The library by plain C calls, for the screens: numbers, structs of numbers by value, and slices as pointer and length.
 ghost use mathlib.Core.Path.{_≡_};
-ghost use Rattle.screen.specs.Contracts.{NewSays, ConnectSays, ArriveSays, FrameSays, CutSays, LinkSays, ScrapSays, BadgeSays, WhySays, RowSays, SideSays, StripSays, VersionSays};
+ghost use Rattle.screen.specs.Contracts.{NewSays, ConnectSays, ArriveSays, FrameSays, CutSays, LinkSays, ScrapSays, BadgeSays, WhySays, RowSays, SideSays, StripSays, PasswordSays, VersionSays};
 ghost use Rattle.feed.specs.Steps.{lent};
 ghost use Rattle.screen.specs.Plain.{yes, bit, linkOf, feedOf, plainFeed, plainGiven, plainFrame, lineOf, plainLine, plainHeard};
 use books::Level;
@@ -423,6 +423,20 @@ pub extern "C" fn mmdh_read_strip(strips: &[u64], code: u64) -> MmdhStrip
         imbalance: strip.imbalance,
         closing: strip.closing,
     }
+}
+
+// A new password under an edition (111 or 136), with the last passwords: their lengths, and their bytes one after the other. 0 passes, 23 no history,
+// 15 another edition, else the first item that fails: 1 length, 2 upper, 3 lower, 4 digit, 5 special, 6 history.
+#[no_mangle]
+pub extern "C" fn mmdh_password(
+    edition: u64,
+    password: &[u8],
+    lengths: &[u64],
+    history: &[u8],
+) -> u64
+    ensures { λ r. ⌜ PasswordSays edition (now (password .entry)) (now (lengths .entry)) (now (history .entry)) r ⌝ }
+{
+    password::asked(edition, password, lengths, history)
 }
 
 // The shapes of these calls, by a number that a caller compares with the one it was built with.
