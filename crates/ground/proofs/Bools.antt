@@ -1,6 +1,6 @@
 -- Tests, and choices by tests. Assumes nothing.
 use mathlib.Core.Path.{_≡_, refl}
-use mathlib.Core.Bool.{Bool, true, false, cond, _&&_, false≢true}
+use mathlib.Core.Bool.{Bool, true, false, cond, _&&_, _||_, false≢true}
 use lib.Dec.{T}
 
 -- both parts of a conjunction, and back
@@ -15,6 +15,10 @@ join false b p q = p
 pub no-second : (a b : Bool) → b ≡ false → a && b ≡ false
 no-second true b e = e
 no-second false b e = refl
+
+pub or-second : (a b : Bool) → b ≡ true → a || b ≡ true
+or-second true b e = refl
+or-second false b e = e
 
 -- a test that passes as a proposition, and back; both parts of one, and back
 pub of-T : (b : Bool) → T b → b ≡ true

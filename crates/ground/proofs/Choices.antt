@@ -2,14 +2,16 @@
 use Prim.Native.Nat.{ℕ, zero, suc, _+_, _<_}
 use native.Mathlib.Nat.{le-of-suc-le-suc, not-suc-le-zero}
 use native.Mathlib.Numerals.{add-one}
+use native.Mathlib.Omega.{arith}
 use mathlib.Core.Path.{_≡_, refl, sym, ap, subst}
-use mathlib.Core.Bool.{Bool, true, false, cond, not, _&&_, _||_}
+use mathlib.Core.Bool.{Bool, true, false, cond, not, _&&_, _||_, false≢true}
 use mathlib.Core.List.{List, [], _∷_, _++_}
 use lib.Dec.{T, eqb, eqb→eq}
 use lib.ListN.{length, drop, getD, set}
 use lib.Seq.{drop-cons}
-use Rattle.ground.specs.Choice.{oneOf, pick, first, all, any}
-use Rattle.ground.proofs.Bools.{both, join, two, pair}
+use borrow.Author.Tests.{eqb-true, eq-eqb}
+use Rattle.ground.specs.Choice.{oneOf, pick, first, all, any, same}
+use Rattle.ground.proofs.Bools.{both, join, or-second, two, pair}
 
 -- tests in order, each of which has the property beside it or does not pass: what is picked has the property
 pub first-may : {A : Type 0} (g : A → Bool) (ts : List (Bool × A)) (other : A)
@@ -143,3 +145,38 @@ pick-other {A} g x (p ∷ ps) other h n = go (eqb x (p .0)) (g (p .1)) refl h n 
 pub any-step : {A : Type 0} (f : A → Bool) (l : List A) (i : ℕ) (d : A) → i < length l → any f (drop i l) ≡ f (getD l i d) || any f (drop (i + 1) l)
 unfolding any
 any-step f l i d h = rw (drop-cons l i d h, add-one i)
+
+module _ {A : Type 0} (f : A → Bool) (d : A) where
+  -- a test that passes at some element passes at the i-th, for some i; and back
+  pub any-found : (l : List A) → any f l ≡ true → (i : ℕ) × (i < length l) × (f (getD l i d) ≡ true)
+  unfolding any
+  any-found [] e = absurd (false≢true e)
+  any-found (x ∷ l) e = go (f x) refl e (any-found l)
+    where
+      go : (b : Bool) → f x ≡ b → b || any f l ≡ true → (any f l ≡ true → (i : ℕ) × (i < length l) × (f (getD l i d) ≡ true))
+          → (i : ℕ) × (i < suc (length l)) × (f (getD (x ∷ l) i d) ≡ true)
+      go true h e rest = (0, omega arith, h)
+      go false h e rest =
+          let r = rest e in
+          (suc (r .0), omega (arith, r .1), r .2)
+
+  pub any-at : (l : List A) (i : ℕ) → i < length l → f (getD l i d) ≡ true → any f l ≡ true
+  unfolding any
+  any-at [] i h e = absurd (not-suc-le-zero h)
+  any-at (x ∷ l) zero h e = rw e
+  any-at (x ∷ l) (suc i) h e = or-second (f x) (any f l) (any-at l i (le-of-suc-le-suc h) e)
+
+-- lists that are the same numbers are the same, and back
+pub same-is : (a b : List ℕ) → same a b ≡ true → a ≡ b
+unfolding same
+same-is [] [] e = refl
+same-is [] (y ∷ ys) e = absurd (false≢true e)
+same-is (x ∷ xs) [] e = absurd (false≢true e)
+same-is (x ∷ xs) (y ∷ ys) e =
+    let h = both (eqb x y) (same xs ys) e in
+    rw (eqb-true x y (h .0), same-is xs ys (h .1))
+
+pub same-self : (a : List ℕ) → same a a ≡ true
+unfolding same
+same-self [] = refl
+same-self (x ∷ xs) = join (eqb x x) (same xs xs) (eq-eqb x x refl) (same-self xs)

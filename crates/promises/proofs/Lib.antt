@@ -22,6 +22,7 @@ pub mod Lines
 pub mod Singles
 pub mod Contracts
 pub mod Why
+pub mod Verdicts
 pub mod Ends
 pub mod Sides
 pub mod Dropped

@@ -29,4 +29,5 @@ pub mod Torn
 pub mod Dropped
 pub mod Fallen
 pub mod Why
+pub mod Verdicts
 pub mod Sides
