@@ -50,6 +50,7 @@ use Rattle.promises.specs.GoodMorning as promises-GoodMorning
 use Rattle.promises.specs.Leaves as promises-Leaves
 use Rattle.promises.specs.Ledger as promises-Ledger
 use Rattle.promises.specs.Mornings as promises-Mornings
+use Rattle.promises.specs.Passwords as promises-Passwords
 use Rattle.promises.specs.Phases as promises-Phases
 use Rattle.promises.specs.Pieces as promises-Pieces
 use Rattle.promises.specs.Refusals as promises-Refusals
@@ -261,6 +262,10 @@ unfoldable promises-mornings : ℕ
 unfolding promises-Mornings.twoBids promises-Mornings.better promises-Mornings.tenth promises-Mornings.logsOn promises-Mornings.day promises-Mornings.refilled promises-Mornings.empties promises-Mornings.strips promises-Mornings.twoStrips promises-Mornings.oneSlot promises-Mornings.wordsOfOne promises-Mornings.wordsOfTwo promises-Mornings.allows promises-Mornings.forbids promises-Mornings.talks promises-Mornings.keeps promises-Mornings.resumed promises-Mornings.ledgers promises-Mornings.sameTimes promises-Mornings.ofStrip promises-Mornings.stripsAre promises-Mornings.recounts promises-Mornings.greenFrom promises-Mornings.dark promises-Mornings.threeBids promises-Mornings.oneBid promises-Mornings.freeSlot promises-Mornings.logonThen promises-Mornings.connectsAgain promises-Mornings.ofCode promises-Mornings.twoCodes promises-Mornings.oneEmptied promises-Mornings.tales promises-Mornings.striped promises-Mornings.endings
 promises-mornings = 0
 
+unfoldable promises-passwords : ℕ
+unfolding promises-Passwords.underLent promises-Passwords.joined promises-Passwords.under promises-Passwords.made promises-Passwords.sixteen promises-Passwords.eight promises-Passwords.items promises-Passwords.through promises-Passwords.range promises-Passwords.makeUp promises-Passwords.bytes promises-Passwords.borders promises-Passwords.others promises-Passwords.histories promises-Passwords.named promises-Passwords.editions
+promises-passwords = 0
+
 unfoldable promises-phases : ℕ
 unfolding promises-Phases.units promises-Phases.left promises-Phases.barred promises-Phases.met promises-Phases.beats promises-Phases.paired promises-Phases.inIdle promises-Phases.inWaitKey promises-Phases.inWaitLogon promises-Phases.inRefreshing promises-Phases.inLive promises-Phases.inLost promises-Phases.inClosed promises-Phases.whole
 promises-phases = 0
@@ -318,5 +323,5 @@ unfolding promises-Widths.widths
 promises-widths = 0
 
 unfoldable pub computes : ℕ
-unfolding bind ground-choice wire-codes wire-number wire-units slots-code-turns slots-layout slots-slots ladder-code-arrays ladder-code-loading ladder-message ladder-sides ladder-walk ladder-words books-code-rows books-code-turns books-reading books-table strips-code-shapes strips-forms strips-reading strips-table strips-words feed-answers feed-code-judging feed-events feed-feeds feed-frames feed-messages feed-program feed-reasons feed-steps lines-looks lines-scraps password-rule promises-answering promises-build promises-checks promises-decisions promises-demands promises-desk promises-dropped promises-emptied promises-entries promises-fallen promises-frames promises-goodmorning promises-leaves promises-ledger promises-mornings promises-phases promises-pieces promises-refusals promises-repaints promises-runs promises-scraps promises-section6 promises-sizes promises-statuses promises-strips promises-tables promises-torn promises-traps promises-widths
+unfolding bind ground-choice wire-codes wire-number wire-units slots-code-turns slots-layout slots-slots ladder-code-arrays ladder-code-loading ladder-message ladder-sides ladder-walk ladder-words books-code-rows books-code-turns books-reading books-table strips-code-shapes strips-forms strips-reading strips-table strips-words feed-answers feed-code-judging feed-events feed-feeds feed-frames feed-messages feed-program feed-reasons feed-steps lines-looks lines-scraps password-rule promises-answering promises-build promises-checks promises-decisions promises-demands promises-desk promises-dropped promises-emptied promises-entries promises-fallen promises-frames promises-goodmorning promises-leaves promises-ledger promises-mornings promises-passwords promises-phases promises-pieces promises-refusals promises-repaints promises-runs promises-scraps promises-section6 promises-sizes promises-statuses promises-strips promises-tables promises-torn promises-traps promises-widths
 computes = 0

@@ -19,6 +19,7 @@ use Rattle.promises.specs.Mornings as Mornings
 use Rattle.promises.specs.Repaints as Repaints
 use Rattle.promises.specs.Torn as Torn
 use Rattle.promises.specs.Fallen as Fallen
+use Rattle.promises.specs.Passwords as Passwords
 use Rattle.promises.proofs.Computes.{computes}
 
 pub desk-hold : wrong Desk.desk ≡ []
@@ -436,3 +437,23 @@ fallsSums-hold = refl
 pub fallsPieces-hold : wrong Fallen.pieces ≡ []
 unfolding computes
 fallsPieces-hold = refl
+
+pub passwordItems-hold : wrong Passwords.items ≡ []
+unfolding computes
+passwordItems-hold = refl
+
+pub passwordBytes-hold : wrong Passwords.bytes ≡ []
+unfolding computes
+passwordBytes-hold = refl
+
+pub passwordBorders-hold : wrong Passwords.borders ≡ []
+unfolding computes
+passwordBorders-hold = refl
+
+pub passwordHistories-hold : wrong Passwords.histories ≡ []
+unfolding computes
+passwordHistories-hold = refl
+
+pub passwordEditions-hold : wrong Passwords.editions ≡ []
+unfolding computes
+passwordEditions-hold = refl

@@ -30,4 +30,5 @@ pub mod Dropped
 pub mod Fallen
 pub mod Why
 pub mod Verdicts
+pub mod Passwords
 pub mod Sides
