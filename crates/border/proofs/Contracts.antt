@@ -17,6 +17,7 @@ use Rattle.screen.proofs.mmdh_why.Reads as why
 use Rattle.screen.proofs.mmdh_read_row.Reads as read-row
 use Rattle.screen.proofs.mmdh_read_side.Reads as read-side
 use Rattle.screen.proofs.mmdh_read_strip.Reads as read-strip
+use Rattle.screen.proofs.mmdh_password.Reads as password
 use Rattle.screen.proofs.mmdh_version.Reads as version
 
 -- nothing is asked of who calls
@@ -55,6 +56,9 @@ read-side-asks κs a = tt
 
 pub read-strip-asks : (κs : _) (a : _) → read-strip.Asked κs a
 read-strip-asks κs a = tt
+
+pub password-asks : (κs : _) (a : _) → password.Asked κs a
+password-asks κs a = tt
 
 pub version-asks : (κs : _) (a : _) → version.Asked κs a
 version-asks κs a = tt
@@ -101,6 +105,9 @@ read-side-one κs a r r′ x x′ p q = p ∙ sym q
 
 pub read-strip-one : (κs : _) (a : _) (r r′ : _) (x x′ : _) → read-strip.Learnt κs a r x → read-strip.Learnt κs a r′ x′ → r ≡ r′
 read-strip-one κs a r r′ x x′ p q = p ∙ sym q
+
+pub password-one : (κs : _) (a : _) (r r′ : _) (x x′ : _) → password.Learnt κs a r x → password.Learnt κs a r′ x′ → r ≡ r′
+password-one κs a r r′ x x′ p q = p ∙ sym q
 
 pub version-one : (κs : _) (a : _) (r r′ : _) (x x′ : _) → version.Learnt κs a r x → version.Learnt κs a r′ x′ → r ≡ r′
 version-one κs a r r′ x x′ p q = p ∙ sym q

@@ -19,6 +19,8 @@ use Rattle.feed.proofs.Feed.why.Reads as why
 use Rattle.books.proofs.read_row.Reads as read-row
 use Rattle.books.proofs.read_side.Reads as read-side
 use Rattle.strips.proofs.read_strip.Reads as read-strip
+use Rattle.password.proofs.check.Reads as check
+use Rattle.password.proofs.asked.Reads as asked
 
 -- nothing is asked of who calls
 pub new-asks : (κs : _) (a : _) → new.Asked κs a
@@ -59,6 +61,12 @@ read-side-asks κs a = tt
 
 pub read-strip-asks : (κs : _) (a : _) → read-strip.Asked κs a
 read-strip-asks κs a = tt
+
+pub check-asks : (κs : _) (a : _) → check.Asked κs a
+check-asks κs a = tt
+
+pub asked-asks : (κs : _) (a : _) → asked.Asked κs a
+asked-asks κs a = tt
 
 -- two outcomes are one: what is handed back, and where a table is lent every word of it, and every byte of a holding buffer
 pub new-one : (κs : _) (a : _) (r r′ : _) (x x′ : _) → new.Learnt κs a r x → new.Learnt κs a r′ x′ → r ≡ r′
@@ -105,3 +113,9 @@ read-side-one κs a r r′ x x′ p q = p ∙ sym q
 
 pub read-strip-one : (κs : _) (a : _) (r r′ : _) (x x′ : _) → read-strip.Learnt κs a r x → read-strip.Learnt κs a r′ x′ → r ≡ r′
 read-strip-one κs a r r′ x x′ p q = p ∙ sym q
+
+pub check-one : (κs : _) (a : _) (r r′ : _) (x x′ : _) → check.Learnt κs a r x → check.Learnt κs a r′ x′ → r ≡ r′
+check-one κs a r r′ x x′ p q = p ∙ sym q
+
+pub asked-one : (κs : _) (a : _) (r r′ : _) (x x′ : _) → asked.Learnt κs a r x → asked.Learnt κs a r′ x′ → r ≡ r′
+asked-one κs a r r′ x x′ p q = p ∙ sym q
