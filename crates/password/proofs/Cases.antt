@@ -19,7 +19,7 @@ use Rattle.password.specs.declared.Class.{Class}
 use Rattle.password.specs.declared.Class.the-variants.{Upper, Lower, Digit, Special}
 use Rattle.password.specs.declared.Verdict.{Verdict}
 use Rattle.password.specs.declared.Verdict.the-variants.{Passes, BadHistory, Short, NoUpper, NoLower, NoDigit, NoSpecial, Used}
-use Rattle.password.specs.Rule.{verdictNo, shortest, specials, between, isOf, lacks, lacksSpecial, total, misses, badHistory, lasts, items, judged, verdictOf, plainVerdict}
+use Rattle.password.specs.Rule.{verdictNo, shortest, specials, between, asksSpecial, isOf, lacks, total, misses, badHistory, lasts, items, judged, verdictOf, plainVerdict}
 
 -- a range
 pub above : (lo hi b : ℕ) → lo ≤ b → leb b hi ≡ between lo hi b
@@ -85,13 +85,13 @@ module _ (c : Class) (s : List ℕ) where
   unfolding any lacks
   seek-none i f h = ap not (rw (drop-of-length-le s {i = i} h) at (f .ends))
 
-pub special-old : (e : Edition) (new : List ℕ) → e ≡ E111 → false ≡ lacksSpecial e new
-unfolding lacksSpecial
-special-old e new h = rw h
+-- the special character, asked for or not
+module _ (e : Edition) (new : List ℕ) (a : Bool) (asks : a ≡ asksSpecial e) where
+  pub special-unasked : a ≡ false → false ≡ asksSpecial e && lacks Special new
+  special-unasked h = rw (← asks, h)
 
-pub special-new : (e : Edition) (new : List ℕ) (r : Bool) → e ≡ E136 → r ≡ lacks Special new → r ≡ lacksSpecial e new
-unfolding lacksSpecial
-special-new e new r h g = rw h g
+  pub special-asked : (r : Bool) → a ≡ true → r ≡ lacks Special new → r ≡ asksSpecial e && lacks Special new
+  special-asked r h g = rw (← asks, h) g
 
 -- lists of unlike lengths
 apart : (a b : List ℕ) → (length a ≡ length b → ⊥) → same a b ≡ false
@@ -236,7 +236,7 @@ module _ (e : Edition) (new : List ℕ) (last : List (List ℕ)) (n : ℕ) (is :
         unfolding items first
         no-digit h = rw (← is, le-ltb (length new) n long, ← upper, up, ← lower, low, ← digit, h)
 
-        module _ (dig : d ≡ false) (s : Bool) (special : s ≡ lacksSpecial e new) where
+        module _ (dig : d ≡ false) (s : Bool) (special : s ≡ asksSpecial e && lacks Special new) where
           pub no-special : s ≡ true → NoSpecial ≡ judged e new last
           unfolding items first
           no-special h = rw (← is, le-ltb (length new) n long, ← upper, up, ← lower, low, ← digit, dig, ← special, h)
@@ -291,8 +291,8 @@ pub ruleset cases = (
   seek-more,
   seek-found,
   seek-none,
-  special-old,
-  special-new,
+  special-unasked,
+  special-asked,
   same-start,
   same-more,
   same-stop,

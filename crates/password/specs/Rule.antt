@@ -1,6 +1,6 @@
 -- The password rule, old and new (document 02, request 7; the exchange's policy is 2.2.1 of 000 and of 003). Assumes nothing.
 use Prim.Native.Nat.{ℕ, _+_}
-use mathlib.Core.Bool.{Bool, false, not, cond, _&&_, _||_}
+use mathlib.Core.Bool.{Bool, true, false, not, cond, _&&_, _||_}
 use mathlib.Core.List.{List, [], _∷_}
 use lib.ListN.{length, take, drop}
 use lib.Dec.{eqb, ltb, leb}
@@ -33,6 +33,11 @@ abbrev pub shortest : Edition → ℕ
 shortest E111 = 8
 shortest E136 = 16
 
+-- "and besides those one of" the specials: edition 1.11 asks for none
+abbrev pub asksSpecial : Edition → Bool
+asksSpecial E111 = false
+asksSpecial E136 = true
+
 -- "! @ # $ ^ & * ( )"
 abbrev pub specials : List ℕ
 specials = 33 ∷ 64 ∷ 35 ∷ 36 ∷ 94 ∷ 38 ∷ 42 ∷ 40 ∷ 41 ∷ []
@@ -50,11 +55,6 @@ isOf Special b = oneOf b specials
 -- no character is of a class; "other characters are not judged"
 unfoldable pub lacks : Class → List ℕ → Bool
 lacks c new = not (any (isOf c) new)
-
--- edition 1.11 asks for no special character
-unfoldable pub lacksSpecial : Edition → List ℕ → Bool
-lacksSpecial E111 new = false
-lacksSpecial E136 new = lacks Special new
 
 -- what lengths add up to, however large they are: nothing wraps
 unfoldable pub total : List ℕ → ℕ
@@ -81,7 +81,7 @@ items e new last =
     ∷ (lacks Upper new, NoUpper)
     ∷ (lacks Lower new, NoLower)
     ∷ (lacks Digit new, NoDigit)
-    ∷ (lacksSpecial e new, NoSpecial)
+    ∷ (asksSpecial e && lacks Special new, NoSpecial)
     ∷ (any (same new) last, Used)
     ∷ []
 

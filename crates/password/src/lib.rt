@@ -1,9 +1,11 @@
 // New passwords, judged before the hub judges them: the verdict of an edition's rule on the bytes lent. Nothing is written, and no byte is copied.
 ghost use mathlib.Core.Path.{_≡_};
+ghost use mathlib.Core.Bool.{_&&_};
 ghost use lib.ListN.{length};
 ghost use Rattle.ground.specs.Choice.{oneOf, any, same};
 ghost use Rattle.password.specs.Contracts.{CheckSays, AskedSays};
-ghost use Rattle.password.specs.Rule.{shortest, between, isOf, lacks, lacksSpecial, total, misses, badHistory, lasts, judged, verdictNo};
+ghost use Rattle.password.specs.declared.Class.the-variants.{Special};
+ghost use Rattle.password.specs.Rule.{shortest, asksSpecial, between, isOf, lacks, total, misses, badHistory, lasts, judged, verdictNo};
 
 // The editions of the exchange's document whose rules are known: 1.11 and 1.36.
 pub enum Edition {
@@ -60,6 +62,16 @@ fn shortest_of(edition: Edition) -> usize
     }
 }
 
+// Whether a special character is asked for.
+fn is_special_asked(edition: Edition) -> bool
+    ensures { λ r. ⌜ r ≡ asksSpecial edition ⌝ }
+{
+    match edition {
+        Edition::E111 => false,
+        Edition::E136 => true,
+    }
+}
+
 // Whether a byte is in a range.
 fn is_between(lo: u8, hi: u8, b: u8) -> bool
     ensures { λ r. ⌜ r ≡ between lo hi b ⌝ }
@@ -110,14 +122,14 @@ fn is_lacking(class: Class, new: &[u8]) -> bool
     true
 }
 
-// Whether the special character is missing that an edition asks for.
+// Whether a special character is asked for and missing.
 fn is_special_missing(edition: Edition, new: &[u8]) -> bool
-    ensures { λ r. ⌜ r ≡ lacksSpecial edition (now (new .entry)) ⌝ }
+    ensures { λ r. ⌜ r ≡ asksSpecial edition && lacks Special (now (new .entry)) ⌝ }
 {
-    match edition {
-        Edition::E111 => false,
-        Edition::E136 => is_lacking(Class::Special, new),
+    if is_special_asked(edition) {
+        return is_lacking(Class::Special, new);
     }
+    false
 }
 
 // Whether two passwords are the same.

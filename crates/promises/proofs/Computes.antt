@@ -199,7 +199,7 @@ unfolding lines-Scraps.gathered lines-Scraps.settled lines-Scraps.looked lines-S
 lines-scraps = 0
 
 unfoldable password-rule : ℕ
-unfolding password-Rule.isOf password-Rule.lacks password-Rule.lacksSpecial password-Rule.total password-Rule.badHistory password-Rule.lasts password-Rule.items password-Rule.verdictOf password-Rule.plainVerdict
+unfolding password-Rule.isOf password-Rule.lacks password-Rule.total password-Rule.badHistory password-Rule.lasts password-Rule.items password-Rule.verdictOf password-Rule.plainVerdict
 password-rule = 0
 
 unfoldable promises-answering : ℕ

@@ -10,7 +10,7 @@ use borrow.Author.Tests.{eqb-true, eqb-false, ltb-true, ltb-false, le-leb, leb-t
 use Rattle.ground.specs.Choice.{oneOf, pick, first, any, same}
 use Rattle.ground.proofs.Bools.{both, join, of-T, is-T}
 use Rattle.ground.proofs.Choices.{any-found, any-at, same-is, same-self}
-use Rattle.password.specs.Rule.{editionNo, verdictNo, shortest, between, isOf, lacks, lacksSpecial, total, misses, badHistory, lasts, items, verdictOf, plainVerdict}
+use Rattle.password.specs.Rule.{editionNo, verdictNo, shortest, between, asksSpecial, isOf, lacks, total, misses, badHistory, lasts, items, verdictOf, plainVerdict}
 use Rattle.password.specs.declared.Edition.{Edition}
 use Rattle.password.specs.declared.Edition.the-variants.{E111, E136}
 use Rattle.password.specs.declared.Class.{Class}
@@ -84,8 +84,8 @@ digit : (new : List ℕ) → Tests (lacks Digit new) (said.Has 48 57 new)
 unfolding isOf
 digit new = has Digit 48 57 new (λ b. refl)
 
-special : (e : Edition) (new : List ℕ) → Tests (lacksSpecial e new) (said.HasSpecial e new)
-unfolding lacksSpecial isOf
+special : (e : Edition) (new : List ℕ) → Tests (asksSpecial e && lacks Special new) (said.HasSpecial e new)
+unfolding isOf
 special E111 new = record { holds = λ z. tt; fails = λ z p. false≢true z }
 special E136 new = seeks Special _ new (λ b h. is-T _ h) (λ b p. of-T _ p)
 
@@ -110,11 +110,11 @@ module _ (e : Edition) (new l h : List ℕ) where
   so : said.Means e new l h (verdictOf e new l h)
   unfolding verdictOf items first
   so =
-      go (badHistory l h) (ltb (length new) (shortest e)) (lacks Upper new) (lacks Lower new) (lacks Digit new) (lacksSpecial e new) (any (same new) (lasts l h))
+      go (badHistory l h) (ltb (length new) (shortest e)) (lacks Upper new) (lacks Lower new) (lacks Digit new) (asksSpecial e && lacks Special new) (any (same new) (lasts l h))
       refl refl refl refl refl refl refl
     where
       go : (a b c d f g i : Bool) → badHistory l h ≡ a → ltb (length new) (shortest e) ≡ b → lacks Upper new ≡ c → lacks Lower new ≡ d → lacks Digit new ≡ f
-          → lacksSpecial e new ≡ g → any (same new) (lasts l h) ≡ i
+          → asksSpecial e && lacks Special new ≡ g → any (same new) (lasts l h) ≡ i
           → said.Means e new l h (cond a BadHistory (cond b Short (cond c NoUpper (cond d NoLower (cond f NoDigit (cond g NoSpecial (cond i Used Passes)))))))
       go true b c d f g i a′ b′ c′ d′ f′ g′ i′ = adds l h .fails a′
       go false true c d f g i a′ b′ c′ d′ f′ g′ i′ = (adds l h .holds a′, long e new .fails b′)
