@@ -43,10 +43,8 @@ adds l h = go (ltb 5 (length l)) (eqb (total l) (length h)) refl refl
     go false false e f = record { holds = λ z. absurd (false≢true (sym z)); fails = λ z p. eqb-false (total l) (length h) f (p .1) }
 
 long : (e : Edition) (new : List ℕ) → Tests (ltb (length new) (shortest e)) (said.Long e new)
-long e new = record {
-  holds = λ z. ltb-false (length new) (shortest e) z;
-  fails = λ z p. let m = ltb-true (length new) (shortest e) z in omega (arith, p);
-}
+long E111 new = record { holds = ltb-false (length new) 8; fails = λ z p. let m = ltb-true (length new) 8 z in omega (arith, p) }
+long E136 new = record { holds = ltb-false (length new) 16; fails = λ z p. let m = ltb-true (length new) 16 z in omega (arith, p) }
 
 -- a class of bytes, at some place
 seeks : (c : Class) (P : ℕ → Type 0) (new : List ℕ) → ((b : ℕ) → isOf c b ≡ true → P b) → ((b : ℕ) → P b → isOf c b ≡ true)

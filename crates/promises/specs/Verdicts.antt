@@ -7,7 +7,7 @@ use mathlib.Core.List.{List}
 use lib.ListN.{length, take, drop, getD}
 use lib.Dec.{T}
 use Rattle.ground.specs.Choice.{oneOf}
-use Rattle.password.specs.Rule.{editionNo, verdictNo, shortest, specials, total, verdictOf, plainVerdict}
+use Rattle.password.specs.Rule.{editionNo, verdictNo, specials, total, verdictOf, plainVerdict}
 use Rattle.password.specs.declared.Edition.{Edition}
 use Rattle.password.specs.declared.Edition.the-variants.{E111, E136}
 use Rattle.password.specs.declared.Verdict.{Verdict}
@@ -18,7 +18,8 @@ abbrev pub Adds : List ℕ → List ℕ → Type 0
 Adds lengths history = (length lengths ≤ 5) × (total lengths ≡ length history)
 
 abbrev pub Long : Edition → List ℕ → Type 0
-Long e new = shortest e ≤ length new
+Long E111 new = 8 ≤ length new
+Long E136 new = 16 ≤ length new
 
 -- a password has, at some place, a byte from one number to another
 abbrev pub Has : ℕ → ℕ → List ℕ → Type 0
