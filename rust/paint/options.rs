@@ -28,7 +28,8 @@ its volume (ev), reference price (ref, rf), order imbalance (imbal, im) with B f
 lower (lo) and upper (up) price; a dash is what has not come, n/a what the exchange says there is not. Under a stale
 badge rows, strips and the words 'empty book' are marked with ~. Where ten rows a side are shown, a tenth row that a new
 level has pushed out since the frame before is shown once more, behind the one that is the tenth now: marked with !, in
-reverse colours, for one frame, in the place of a border. A row that was deleted is not.
+reverse colours, for one frame, in the place of a border; under a stale badge marked with !~, and struck through as the
+other rows are. A row that was deleted is not shown again.
 ";
 
 /// Panels where none are asked for.

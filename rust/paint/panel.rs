@@ -1,5 +1,5 @@
 //! A panel: one book between borders, offers over bids, its price strip under them, the badge in its corner. A row that fell
-//! off its side is flashed behind the tenth one, where a border gives way to it: no other row moves.
+//! off its side is flashed behind the tenth one, where a border gives way to it: no other row moves. It is old where they are.
 
 use crate::fallen::Tenths;
 use crate::strip::{self, Shown};
@@ -61,13 +61,12 @@ impl Panel {
     /// The panel's lines, with so many rows a side, and with the strip or without.
     pub fn lines(&self, columns: Columns, rows: usize, strip: bool) -> Vec<Text> {
         let inside = width(columns) - 2;
-        let flashed = |row: &Row, mark, style| framed(marked(columns, mark, row, style));
         let title = framed(self.title(inside));
         let mut lines = match &self.fallen_offer {
-            Some(row) => vec![title, flashed(row, "O!", Style::FallenOffer)],
+            Some(row) => vec![title, framed(self.flashed(columns, row, Style::FallenOffer))],
             None => vec![rule('┌', inside, '┐'), title],
         };
-        let fallen_bid = self.fallen_bid.as_ref().map(|row| flashed(row, "B!", Style::FallenBid));
+        let fallen_bid = self.fallen_bid.as_ref().map(|row| framed(self.flashed(columns, row, Style::FallenBid)));
         match &self.content {
             Content::Rows { bids, offers } => {
                 lines.extend((0..rows).rev().map(|at| framed(self.row(columns, offers.get(at), Style::Offer))));
@@ -113,11 +112,21 @@ impl Panel {
             }
         }
     }
+
+    /// A row that fell off: reversed among rows that are live, and struck through as they are among old ones.
+    fn flashed(&self, columns: Columns, row: &Row, style: Style) -> Text {
+        let mark = if style == Style::FallenBid { "B!" } else { "O!" };
+        if self.is_old() {
+            marked(columns, &format!("{}~", mark), row, Style::Old)
+        } else {
+            marked(columns, mark, row, style)
+        }
+    }
 }
 
-/// A row behind its mark.
+/// A row behind its mark, of which a third sign takes the space before the price.
 fn marked(columns: Columns, mark: &str, row: &Row, style: Style) -> Text {
-    Text::of(format!("{}{} ", mark, cells(columns, row)), style)
+    Text::of(format!("{}{} ", mark, &cells(columns, row)[mark.len() - MARK..]), style)
 }
 
 /// A badge as a word, or as a letter where there is not room for so many signs.

@@ -5,7 +5,7 @@ use crate::desk::Desk;
 use crate::layout::Size;
 use crate::options::Options;
 use crate::svg::picture;
-use crate::text::{Style, Text};
+use crate::text::{Span, Style, Text};
 use exchange::{book_message, closing, equilibrium, header, imbalance, message, nominal, reference, session, unit};
 use exchange::{Entry, CHANGE, CLEAR, DELETE};
 use mmdh::Badge;
@@ -173,9 +173,15 @@ fn live(messages: &[Vec<u8>], time: u64) -> Desk {
 
 /// The same before anything has come.
 fn to_come(messages: &[Vec<u8>]) -> Desk {
-    let mut bytes = [unit(1, 0, &message(1105, 4)), unit(2, 0, &session(1102, 0))].concat();
+    logged_on(0, messages)
+}
+
+/// A desk whose logon gets this status, and whose messages are to come: live ones, or a snapshot's with 101.
+fn logged_on(status: u8, messages: &[Vec<u8>]) -> Desk {
+    let mut bytes = [unit(1, 0, &message(1105, 4)), unit(2, 0, &session(1102, status))].concat();
     for (message, at) in messages.iter().zip(1..) {
-        bytes.extend(header(at + 2, at, message.len(), u64::from(at) * 1_000_000));
+        let internal = if status == 101 { 0 } else { at };
+        bytes.extend(header(at + 2, internal, message.len(), u64::from(at) * 1_000_000));
         bytes.extend(message);
     }
     Desk::new(3_000, Capture::new(bytes)).expect("listed")
@@ -238,9 +244,13 @@ fn repaints(messages: &[Vec<u8>], words: &str) -> Vec<Vec<Text>> {
 
 /// The rows that a frame flashes, each from its mark on.
 fn flashed(frame: &[Text]) -> Vec<String> {
-    let fallen = |style| matches!(style, Style::FallenBid | Style::FallenOffer);
-    let spans = frame.iter().flat_map(|line| &line.spans).filter(|span| fallen(span.style));
+    let spans = marked(frame, "B!").into_iter().chain(marked(frame, "O!"));
     spans.map(|span| span.text.split_whitespace().collect::<Vec<_>>().join(" ")).collect()
+}
+
+/// The rows of a frame that have this mark.
+fn marked(frame: &[Text], mark: &str) -> Vec<Span> {
+    frame.iter().flat_map(|line| &line.spans).filter(|span| span.text.starts_with(mark)).cloned().collect()
 }
 
 /// The row that the last message makes a frame flash, behind a frame with both sides of 5 full.
@@ -353,7 +363,7 @@ fn each_panel_flashes_its_own_rows() {
     let both = [entry(0, 0, 3, 985), entry(0, 1, 9, 2_075)];
     let messages = [filled(5, 10), filled(6, 10), filled(7, 10), book_message(6, &both)];
     let frames = repaints(&messages, "--codes 5,6,7");
-    assert_eq!(flashed(&frames[4]), ["O! 2.090 2,090 7", "B! 0.910 910 7"]);
+    assert_eq!(flashed(&frames[4]), ["B! 0.910 910 7", "O! 2.090 2,090 7"]);
     // panels of 36 columns, two beside each other: 6 is the second
     let painted = plain(&frames[4]);
     let flashes = painted.iter().filter_map(|line| line.find("|B!").or_else(|| line.find("|O!")));
@@ -361,7 +371,7 @@ fn each_panel_flashes_its_own_rows() {
     assert!(painted.iter().take(30).any(|line| line.find("| 6 ") == Some(36)), "{:#?}", painted);
 }
 
-/// What was accepted before a refusal pushed out its rows all the same.
+/// What was accepted before a refusal pushed out its rows all the same; they are old, as what stands is.
 #[test]
 fn rows_fall_off_before_a_refusal_too() {
     let new = book_message(5, &[entry(0, 0, 1, 1_005)]);
@@ -369,7 +379,41 @@ fn rows_fall_off_before_a_refusal_too() {
     desk.repaint(&asked("--codes 5"), LARGE, 1);
     let frame = desk.repaint(&asked("--codes 5"), LARGE, 3);
     assert!(plain(&frame)[0].contains("an entry does not fit") && desk.is_over());
-    assert_eq!(flashed(&frame), ["B! 0.910 910 7"]);
+    assert_eq!(flashed(&frame), ["B!~ 0.910 910 7"]);
+    // struck through on a terminal and in a picture, and nothing is reversed or has a ground of its side's colour
+    let escaped: String = frame.iter().map(Text::escaped).collect();
+    assert!(escaped.contains("\x1b[2;9mB!~") && !escaped.contains("\x1b[7;"), "{:?}", escaped);
+    let drawn = picture(&frame, LARGE);
+    let row = drawn.lines().find(|line| line.contains(">B!~")).expect("the row's words");
+    assert!(row.contains("line-through") && !drawn.contains("#79b8ff"), "{}", row);
+}
+
+/// A flashed row is old exactly where the rows that stand are: refused, closed or silent, and not while filling.
+#[test]
+fn a_flashed_row_is_as_old_as_the_others() {
+    let new = book_message(5, &[entry(0, 0, 1, 1_005), entry(0, 1, 1, 1_995)]);
+    let cases = [
+        (0, vec![], 2, Badge::Green),
+        (101, vec![], 2, Badge::Filling),
+        (0, vec![new.clone()], 3, Badge::Stale),
+        (0, vec![session(1103, 6)], 3, Badge::Stale),
+        (0, vec![], 9_000, Badge::Stale),
+    ];
+    for (status, behind, time, badge) in cases {
+        let mut desk = logged_on(status, &[vec![filled(5, 10), new.clone()], behind].concat());
+        desk.repaint(&asked("--codes 5"), LARGE, 1);
+        let frame = desk.repaint(&asked("--codes 5"), LARGE, time);
+        assert_eq!(first_corner(&frame), Some(badge), "status {}, {} ms", status, time);
+        let old = badge == Badge::Stale;
+        for (side, live, fallen) in [("B", Style::Bid, Style::FallenBid), ("O", Style::Offer, Style::FallenOffer)] {
+            let styles = |sign: &str| -> Vec<Style> {
+                marked(&frame, &format!("{}{}", side, sign)).iter().map(|span| span.style).collect()
+            };
+            let (stand, gone) = if old { ("~", "!~") } else { (" ", "! ") };
+            assert_eq!(styles(stand), [if old { Style::Old } else { live }; 10], "{:?}", badge);
+            assert_eq!(styles(gone), [if old { Style::Old } else { fallen }], "{:?}", badge);
+        }
+    }
 }
 
 /// Reversed on a terminal, on a ground of its side's colour in a picture.

@@ -12,7 +12,7 @@ pub enum Style {
     Offer,
     /// A row that is not to be quoted from.
     Old,
-    /// A row that a new level pushed out of its side.
+    /// A row that a new level pushed out of its side, among rows that may be quoted from.
     FallenBid,
     FallenOffer,
     Corner(Badge),
