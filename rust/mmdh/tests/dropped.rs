@@ -4,7 +4,7 @@ use exchange::dice::Dice;
 use exchange::{book_message, message, nominal, session, unit, Entry, CHANGE, CLEAR, DELETE};
 use mmdh::raw::{self, Lent, MmdhFeed, MmdhFrame, MmdhGiven, MmdhHeard};
 use mmdh::single::{Feed, LentLine};
-use mmdh::{Answer, Connect, Line, Side, Tables};
+use mmdh::{Answer, Connect, Heard, Line, Refused, Side, Tables};
 use std::mem::size_of;
 
 const LIVE: MmdhFeed = MmdhFeed { phase: 4, next: 3, internal: 0, heard: 5_000, limit: 1_000, whole: 1, fresh: 1 };
@@ -182,19 +182,26 @@ fn a_line_hands_it_up_and_counts_it_since_the_connect() {
     }
 }
 
+/// A way to hand bytes to a line.
+type Hears = fn(&mut Line, &[u8]) -> Result<Heard, Refused>;
+
 #[test]
 fn behind_a_refusal_a_line_still_tells_what_was_pushed_out_before_it() {
     let bytes: Vec<u8> = units().into_iter().flat_map(|unit| unit.2).collect();
-    for (way, sum) in [(0, ALL), (1, ALL), (2, 3)] {
+    let ways: [Hears; 3] = [
+        |line, bytes| line.hear(bytes, 5_001),
+        |line, bytes| line.hear_each(bytes, 5_001, |_| {}),
+        |line, bytes| line.hear_frame(bytes, u64::MAX, 5_001),
+    ];
+    for (hears, way) in ways.into_iter().zip(1..) {
         let mut line = line(10);
-        let heard = match way {
-            0 => line.hear(&bytes, 5_001),
-            1 => line.hear_each(&bytes, 5_001, |_| {}),
-            _ => line.hear_frame(&bytes, 4, 5_001),
-        };
-        let answer = heard.map_or_else(|refused| refused.answer().number(), |heard| heard.dropped);
-        assert_eq!((answer, line.dropped()), (if way == 2 { sum } else { 16 }, sum), "way {}", way);
+        let refused = hears(&mut line, &bytes).expect_err("the last unit does not fit");
+        assert_eq!((refused.answer(), line.dropped()), (Answer::Misfit, ALL), "way {}", way);
     }
+    // a frame that ends before the refusal hands up the same number as the line
+    let mut line = line(10);
+    let heard = line.hear_frame(&bytes, 4, 5_001).expect("the first four are accepted");
+    assert_eq!((heard.dropped, line.dropped()), (3, 3));
 }
 
 /// A repaint takes what a frame left, and each hands up its own.
