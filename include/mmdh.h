@@ -1,11 +1,11 @@
 /*
  * mmdh: order books from the exchange's MMDH feed, a price strip under each, and a badge that is green only with the right
- * to be.
+ * to be. Besides, whether a new password meets the exchange's rule.
  *
- * The answers are the numbers of document 01, and 22 of document 02; MMDH_* below names them. Every call is total: it takes
- * any feed, any tables, any bytes and any time, and nothing is kept between calls. Only a scrap may have no answer, where its
- * bytes wait or are dropped. Link with libscreen.a, and compare mmdh_version() with MMDH_VERSION once at the start: the linker
- * does not notice an archive whose calls have other shapes.
+ * The answers are the numbers of document 01, and 22 and 23 of document 02; MMDH_* below names them. Every call is total: it
+ * takes any feed, any tables, any bytes and any time, and nothing is kept between calls. Only a scrap may have no answer, where
+ * its bytes wait or are dropped. Link with libscreen.a, and compare mmdh_version() with MMDH_VERSION once at the start: the
+ * linker does not notice an archive whose calls have other shapes.
  *
  * Two tables are lent: the books, 64 words each, and the strips, 12 words each, at most 4,096 of either; words behind the
  * last whole one are never read or written. Each table has its own order of slots. Start with all words zero, lend the
@@ -51,14 +51,26 @@ enum {
     MMDH_WRONG_SIZE = 12,    /* wrong size: Lost */
     MMDH_NOT_NEXT = 13,      /* SeqNum is not the next: Lost */
     MMDH_NOT_ALLOWED = 14,   /* type or internal number not allowed in the phase: Lost */
-    MMDH_NOT_LISTED = 15,    /* a field or status that is not listed: Lost and not whole */
+    MMDH_NOT_LISTED = 15,    /* a field or status that is not listed: Lost and not whole; of a password, an edition */
     MMDH_MISFIT = 16,        /* an entry does not fit: Lost and not whole */
     MMDH_FULL = 17,          /* no slot is free: Lost and not whole */
     MMDH_UNSOUND = 18,       /* the book or the strip is not sound: Lost and not whole */
     MMDH_BAD_LIMIT = 19,     /* new feed, limit outside 1 to 600,000: a feed with limit 1,000 is handed back */
     MMDH_CANNOT_RESUME = 20, /* resuming connect without its need */
-    MMDH_TOO_LONG = 22       /* lines only: a unit, a header with MsgSize, or what waits is longer than the holding buffer: Lost; a
+    MMDH_TOO_LONG = 22,      /* lines only: a unit, a header with MsgSize, or what waits is longer than the holding buffer: Lost; a
                                 connect: unchanged */
+    MMDH_BAD_HISTORY = 23    /* passwords only: more than 5 lengths, or lengths that do not add up to the bytes of the history */
+};
+
+/* Items of the password rule, in the order in which they are tried: mmdh_password gives the first that fails. They are no answers,
+   though answers have some of the same numbers. */
+enum {
+    MMDH_ITEM_LENGTH = 1,  /* fewer than 8 bytes by edition 1.11, fewer than 16 by 1.36 */
+    MMDH_ITEM_UPPER = 2,   /* no byte from A to Z */
+    MMDH_ITEM_LOWER = 3,   /* no byte from a to z */
+    MMDH_ITEM_DIGIT = 4,   /* no byte from 0 to 9 */
+    MMDH_ITEM_SPECIAL = 5, /* by edition 1.36 only: none of ! @ # $ ^ & * ( ) */
+    MMDH_ITEM_HISTORY = 6  /* the same as one of the last passwords, byte for byte */
 };
 
 /* Phases. A number above 6 is handled as Lost. */
@@ -261,6 +273,20 @@ uint64_t mmdh_badge(uint64_t phase, uint64_t heard, uint64_t limit, uint64_t tim
 /* Why the badge is what it is at that time, of the same numbers: by the phase in Idle, Lost and Closed, then by the limit,
    then by the clock, else by the phase. */
 uint64_t mmdh_why(uint64_t phase, uint64_t heard, uint64_t limit, uint64_t time);
+
+/* Whether a new password meets the rule of the exchange's document, in the edition that the site goes by: 111 for 1.11, 136 for
+   1.36. The last passwords, at most 5 and in any order, stand in history one behind the other with nothing between them, and
+   lengths has how many bytes each of them has. None at all, and one of length 0, are fine.
+
+   0 where it passes. Else the first of these: 23 where the history is not one (more than 5 lengths, or lengths that do not add up
+   to history_len; they may be any numbers, and no sum wraps), 15 where the edition is another, and the first item that fails,
+   MMDH_ITEM_LENGTH to MMDH_ITEM_HISTORY.
+
+   Characters are bytes, letters and digits those of ASCII, and no other byte is judged. Here there is no longest password and no
+   rule of days; the exchange has both, so its hub may turn down what passes. The call only reads: the bytes stay the caller's to
+   wipe, no copy of them is made, and all that is lent may overlap. How long it takes depends on the bytes. */
+uint64_t mmdh_password(uint64_t edition, const uint8_t *password, size_t password_len, const uint64_t *lengths, size_t lengths_len,
+                       const uint8_t *history, size_t history_len);
 
 #ifdef __cplusplus
 }

@@ -1,6 +1,6 @@
 /* include/mmdh.h as a C program meets it: its version, example 10's three units through the archive, one by one, as a frame and in
    scraps, the row and the sides they leave, an emptied book, rows that fall off a full side, a strip of every type, the badge and
-   every reason. */
+   every reason, and every result of the password rule. */
 #include <stddef.h>
 #include <stdio.h>
 #include <string.h>
@@ -422,6 +422,66 @@ static void scraps(const uint8_t *bytes, size_t n, const uint64_t *books) {
     expect("the tables of before", memcmp(own, books, sizeof own) == 0);
 }
 
+/* New passwords, each with the last ones that are lent and what it must get. What is lent cannot be written to, and none of it is
+   ever printed. */
+static void passwords(void) {
+    static const char old[] = "Abcdefg1", good[] = "Abcdefghijklm1!x";
+    static const struct {
+        const char *what, *password;
+        uint64_t edition, count, lengths[6];
+        const char *history;
+        uint64_t wanted;
+    } cases[] = {
+        {"8 bytes, 1.11", old, 111, 0, {0}, "", 0},
+        {"7 bytes, 1.11", "Abcdef1", 111, 0, {0}, "", MMDH_ITEM_LENGTH},
+        {"16 bytes, 1.36", good, 136, 0, {0}, "", 0},
+        {"16 bytes, 1.11", good, 111, 0, {0}, "", 0},
+        {"15 bytes, 1.36", "Abcdefghijkl1!x", 136, 0, {0}, "", MMDH_ITEM_LENGTH},
+        {"no upper case letter, 1.11", "abcdefg1", 111, 0, {0}, "", MMDH_ITEM_UPPER},
+        {"no upper case letter, 1.36", "abcdefghijklm1!x", 136, 0, {0}, "", MMDH_ITEM_UPPER},
+        {"no lower case letter, 1.11", "ABCDEFG1", 111, 0, {0}, "", MMDH_ITEM_LOWER},
+        {"no lower case letter, 1.36", "ABCDEFGHIJKLM1!X", 136, 0, {0}, "", MMDH_ITEM_LOWER},
+        {"no digit, 1.11", "Abcdefg!", 111, 0, {0}, "", MMDH_ITEM_DIGIT},
+        {"no digit, 1.36", "Abcdefghijklmn!x", 136, 0, {0}, "", MMDH_ITEM_DIGIT},
+        {"no special character, 1.36", "Abcdefghijklm1%+", 136, 0, {0}, "", MMDH_ITEM_SPECIAL},
+        {"no special character, 1.11", "Abcdefghijklm1%+", 111, 0, {0}, "", 0},
+        {"one of the last, 1.11", old, 111, 3, {3, 8, 0}, "oldAbcdefg1", MMDH_ITEM_HISTORY},
+        {"the first of the last", old, 111, 2, {8, 3}, "Abcdefg1old", MMDH_ITEM_HISTORY},
+        {"one of the last, 1.36", good, 136, 5, {0, 1, 0, 0, 16}, "oAbcdefghijklm1!x", MMDH_ITEM_HISTORY},
+        {"its bytes across two of the last", good, 136, 2, {15, 1}, good, 0},
+        {"the first bytes of one of the last", old, 111, 1, {9}, "Abcdefg1x", 0},
+        {"length before all others", "", 136, 1, {0}, "", MMDH_ITEM_LENGTH},
+        {"upper before lower", "~~~~~~~~", 111, 0, {0}, "", MMDH_ITEM_UPPER},
+        {"lower before digit", "AAAAAAAA", 111, 0, {0}, "", MMDH_ITEM_LOWER},
+        {"digit before special", "Aaaaaaaaaaaaaaaa", 136, 0, {0}, "", MMDH_ITEM_DIGIT},
+        {"special before history", "Aaaaaaaaaaaaaaa1", 136, 1, {16}, "Aaaaaaaaaaaaaaa1", MMDH_ITEM_SPECIAL},
+        {"another edition before any item", "", 112, 1, {0}, "", MMDH_NOT_LISTED},
+        {"edition 0", good, 0, 0, {0}, "", MMDH_NOT_LISTED},
+        {"an edition of more than 32 bits", good, ((uint64_t)1 << 32) + 136, 0, {0}, "", MMDH_NOT_LISTED},
+        {"five lengths", good, 136, 5, {0}, "", 0},
+        {"six lengths", good, 136, 6, {0}, "", MMDH_BAD_HISTORY},
+        {"a byte too many", good, 136, 1, {1}, "ab", MMDH_BAD_HISTORY},
+        {"a byte too few", good, 136, 2, {1, 2}, "ab", MMDH_BAD_HISTORY},
+        {"bytes and no lengths", good, 136, 0, {0}, "ab", MMDH_BAD_HISTORY},
+        {"lengths of 2^63, 2^63 and 2 over 2 bytes", good, 136, 3, {(uint64_t)1 << 63, (uint64_t)1 << 63, 2}, "ab", MMDH_BAD_HISTORY},
+        {"lengths of 2^64 - 1 and 3 over 2 bytes", good, 136, 2, {UINT64_MAX, 3}, "ab", MMDH_BAD_HISTORY},
+        {"lengths of 2, 1 and 2^64 - 1 over 2 bytes", good, 136, 3, {2, 1, UINT64_MAX}, "ab", MMDH_BAD_HISTORY},
+        {"a bad history before another edition", good, 0, 1, {3}, "ab", MMDH_BAD_HISTORY},
+        {"a bad history before any item", "", 111, 6, {0}, "", MMDH_BAD_HISTORY},
+    };
+    for (size_t k = 0; k < sizeof cases / sizeof cases[0]; k++) {
+        const char *password = cases[k].password, *history = cases[k].history;
+        uint64_t got = mmdh_password(cases[k].edition, (const uint8_t *)password, strlen(password), cases[k].lengths, cases[k].count,
+                                     (const uint8_t *)history, strlen(history));
+        expect(cases[k].what, got == cases[k].wanted);
+    }
+    static const uint64_t lengths[2] = {0, 1};
+    expect("nothing lent: too short", mmdh_password(136, NULL, 0, NULL, 0, NULL, 0) == MMDH_ITEM_LENGTH);
+    expect("a password alone", mmdh_password(111, (const uint8_t *)old, 8, NULL, 0, NULL, 0) == 0);
+    expect("a length of 0 and no bytes", mmdh_password(111, (const uint8_t *)old, 8, lengths, 1, NULL, 0) == 0);
+    expect("a length of 1 and no bytes", mmdh_password(111, NULL, 0, lengths + 1, 1, NULL, 0) == MMDH_BAD_HISTORY);
+}
+
 int main(int argc, char **argv) {
     static uint64_t table[2 * MMDH_BOOK_WORDS + 1], strip_table[MMDH_STRIP_WORDS + 1];
     static uint8_t bytes[4096];
@@ -479,6 +539,7 @@ int main(int argc, char **argv) {
     strips();
 
     reasons();
+    passwords();
     nothing_lent();
     expect("live by its reason", mmdh_why(f.phase, f.heard, f.limit, 6) == MMDH_WHY_LIVE);
 
