@@ -1,4 +1,4 @@
-//! Document 01 in plain Rust, with requests 1 to 3, 5 and 6 of document 02, written from the documents alone, but for which
+//! Document 01 in plain Rust, with requests 1 to 3 and 5 to 7 of document 02, written from the documents alone, but for which
 //! bytes of the holding buffer are written (docs/DECISIONS.md, "Every byte of the buffer"): the same calls over the same tables
 //! of words.
 //! The library is compared with it, answer by answer and word by word.
@@ -8,6 +8,7 @@
 
 pub mod book;
 pub mod line;
+pub mod password;
 pub mod slots;
 pub mod strip;
 pub mod tuned;
