@@ -3,7 +3,7 @@
 use std::error::Error;
 use std::fmt;
 
-/// What a call answers. The numbers are document 01's, 22 is document 02's; more may come.
+/// What a call answers. The numbers are document 01's, 22 and 23 are document 02's; more may come.
 ///
 /// ```
 /// use mmdh::Answer;
@@ -51,10 +51,12 @@ pub enum Answer {
     /// 22: a unit is longer than the holding buffer; or the buffer has fewer than 22 bytes, a header and MsgSize, at a connect
     /// too; or more bytes wait than it has.
     TooLong,
+    /// 23: more than 5 last passwords, or lengths that do not add up to their bytes; only a password gets it.
+    BadHistory,
 }
 
 /// Every answer with its number and its sentence.
-const SENTENCES: [(u64, Answer, &str); 17] = [
+const SENTENCES: [(u64, Answer, &str); 18] = [
     (0, Answer::Taken, "taken"),
     (1, Answer::Seen, "seen before"),
     (2, Answer::Passed, "passed over"),
@@ -72,6 +74,7 @@ const SENTENCES: [(u64, Answer, &str); 17] = [
     (19, Answer::BadLimit, "the silence limit is outside 1 to 600,000 ms"),
     (20, Answer::CannotResume, "there is nothing whole to resume from"),
     (22, Answer::TooLong, "the holding buffer is too short"),
+    (23, Answer::BadHistory, "there are more than 5 last passwords, or their lengths do not add up to their bytes"),
 ];
 
 impl Answer {

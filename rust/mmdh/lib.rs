@@ -34,7 +34,8 @@
 //! # Ok::<(), mmdh::Refused>(())
 //! ```
 //!
-//! Below it, [`single`] has the calls one by one and [`raw`] the C calls themselves.
+//! Below it, [`single`] has the calls one by one and [`raw`] the C calls themselves. Beside it, [`password`] checks a new
+//! password before the hub does.
 
 #![deny(missing_docs)]
 #![deny(unsafe_code)]
@@ -44,6 +45,7 @@ mod books;
 mod feed;
 mod lent;
 mod line;
+pub mod password;
 #[allow(unsafe_code)]
 pub mod raw;
 mod strips;

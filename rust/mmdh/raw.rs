@@ -233,6 +233,15 @@ extern "C" {
     fn mmdh_read_strip(strips: *const u64, strips_len: usize, code: u64) -> MmdhStrip;
     fn mmdh_badge(phase: u64, heard: u64, limit: u64, time: u64) -> u64;
     fn mmdh_why(phase: u64, heard: u64, limit: u64, time: u64) -> u64;
+    fn mmdh_password(
+        edition: u64,
+        password: *const u8,
+        password_len: usize,
+        lengths: *const u64,
+        lengths_len: usize,
+        history: *const u8,
+        history_len: usize,
+    ) -> u64;
 }
 
 /// The request that last changed the shape of a call or a struct of the archive; [`VERSION`] is this cover's.
@@ -335,4 +344,13 @@ pub fn badge(phase: u64, heard: u64, limit: u64, time: u64) -> u64 {
 pub fn why(phase: u64, heard: u64, limit: u64, time: u64) -> u64 {
     // SAFETY: numbers by value only, as above.
     unsafe { mmdh_why(phase, heard, limit, time) }
+}
+
+/// Whether a new password passes (0) the rule of an edition, 111 or 136; else 23 where the lengths are not those of the history, 15
+/// where the edition is another, or the first item that fails, 1 to 6: length, upper, lower, digit, special, history.
+#[inline]
+pub fn password(edition: u64, password: &[u8], lengths: &[u64], history: &[u8]) -> u64 {
+    let (new, many, old) = (password.len(), lengths.len(), history.len());
+    // SAFETY: as for `read_row`, with three slices.
+    unsafe { mmdh_password(edition, password.as_ptr(), new, lengths.as_ptr(), many, history.as_ptr(), old) }
 }
