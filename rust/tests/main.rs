@@ -1,5 +1,5 @@
 //! The library against the twin, call by call; the vectors, document 01's examples, quantities, emptied books, price strips,
-//! frames, scraps and rows that fell off.
+//! frames, scraps, rows that fell off and new passwords.
 //! The last line is 'N passed, M failed'.
 
 #![forbid(unsafe_code)]
@@ -14,6 +14,7 @@ mod grids;
 mod history;
 mod lines;
 mod pair;
+mod passwords;
 mod program;
 mod quantities;
 mod runs;
@@ -82,6 +83,7 @@ fn main() {
     fallen::check(&mut pair);
     falls::check(&mut pair, &mut dice, options.rounds / 100);
     falls::check_streams(&mut pair.tally, &inputs);
+    passwords::check(&mut pair.tally, &mut dice, options.rounds / 25);
     grids::check(&mut pair, &mut dice);
     badges::check(&mut pair, &mut dice, options.rounds / 4);
     sides::check(&mut pair.tally, &mut dice, options.rounds / 1_000);

@@ -6,7 +6,7 @@ use mmdh::raw::MmdhGiven;
 use std::collections::BTreeMap;
 use std::fmt::Debug;
 
-/// The calls, and the answers or reasons that each must have given by the end.
+/// The calls, and the answers, reasons or items that each must have given by the end.
 #[derive(Clone, Copy, PartialEq, Eq, PartialOrd, Ord, Debug)]
 pub enum Call {
     New,
@@ -20,9 +20,10 @@ pub enum Call {
     ReadSide,
     ReadStrip,
     Why,
+    Password,
 }
 
-const WANTED: [(Call, &[u64]); 11] = [
+const WANTED: [(Call, &[u64]); 12] = [
     (Call::New, &[0, 19]),
     (Call::Connect, &[0, 10, 20]),
     (Call::Arrive, &[0, 1, 2, 3, 10, 11, 12, 13, 14, 15, 16, 17, 18]),
@@ -34,6 +35,7 @@ const WANTED: [(Call, &[u64]); 11] = [
     (Call::ReadSide, &[0, 4, 15, 18]),
     (Call::ReadStrip, &[0, 4, 15, 18]),
     (Call::Why, &[0, 1, 2, 3, 4, 5, 6, 7, 8, 9]),
+    (Call::Password, &[0, 1, 2, 3, 4, 5, 6, 15, 23]),
 ];
 
 /// What a book message with NoEntries 0 may meet.
@@ -422,7 +424,7 @@ impl Tally {
 
     /// Prints the counts; true where all passed.
     pub fn finish(mut self) -> bool {
-        self.part("every answer and every reason met, call by call");
+        self.part("every answer, every reason and every item met, call by call");
         for (call, answers) in WANTED {
             for &answer in answers {
                 let met = self.answers.contains_key(&(call, answer));
