@@ -87,6 +87,7 @@ impl Desk {
             "badgec" => badge_of_numbers(&mut words).map(Some),
             "row" => self.row(&mut words).map(Some),
             "strip" => self.strip(&mut words).map(Some),
+            "password" => password(&mut words).map(Some),
             "digest" => words.end().map(|()| Some(format!("digest {}", self.each_table(digest).join(" ")))),
             "words" => words.end().map(|()| Some(self.each_table(set_words).join("\n"))),
             unknown => Err(format!("{} is no operation", unknown)),
@@ -299,6 +300,22 @@ fn badge_of_numbers(words: &mut Words<'_>) -> Result<String, String> {
     let (limit, now) = (words.number("LIMIT")?, words.number("NOW")?);
     words.end()?;
     Ok(format!("badgec {}", raw::badge(phase, heard, limit, now)))
+}
+
+/// What is said of a new password: its number, or the name of the item that it fails.
+fn password(words: &mut Words<'_>) -> Result<String, String> {
+    const ITEMS: [&str; 6] = ["length", "upper", "lower", "digit", "special", "history"];
+    let edition = match words.word("EDITION")? {
+        "1.11" => 111,
+        "1.36" => 136,
+        _ => return Err("password: EDITION is neither 1.11 nor 1.36".to_string()),
+    };
+    let (new, lengths) = (words.bytes("the bytes of NEW")?, words.numbers("LENGTHS", "length")?);
+    let history = words.bytes("the bytes of HISTORY")?;
+    words.end()?;
+    let said = raw::password(edition, &new, &lengths, &history);
+    let item = ITEMS.iter().zip(1..).find(|(_, number)| *number == said);
+    Ok(format!("password {}", item.map_or_else(|| said.to_string(), |(item, _)| item.to_string())))
 }
 
 fn numbers(feed: &MmdhFeed) -> String {

@@ -3,6 +3,9 @@
 /// Most words of a table, and most bytes of a holding buffer, that a script may ask for.
 const LARGEST: u64 = 1 << 24;
 
+/// The operation whose words are passwords: no message may have any of them.
+const SECRET: &str = "password";
+
 /// The words of one line that have not been read yet.
 pub struct Words<'a> {
     operation: &'a str,
@@ -27,7 +30,8 @@ impl<'a> Words<'a> {
         self.rest.len() - self.at
     }
 
-    fn next(&mut self, name: &str) -> Result<&'a str, String> {
+    /// The next word as it stands.
+    pub fn word(&mut self, name: &str) -> Result<&'a str, String> {
         let word =
             self.rest.get(self.at).ok_or_else(|| format!("{} wants {} and has no more words", self.operation, name))?;
         self.at += 1;
@@ -36,10 +40,34 @@ impl<'a> Words<'a> {
 
     /// A decimal number of 64 bits.
     pub fn number(&mut self, name: &str) -> Result<u64, String> {
-        let word = self.next(name)?;
+        let word = self.word(name)?;
+        self.decimal(name, word)
+    }
+
+    fn decimal(&self, name: &str, word: &str) -> Result<u64, String> {
         let digits = !word.is_empty() && word.bytes().all(|byte| byte.is_ascii_digit());
         let number = if digits { word.parse().ok() } else { None };
-        number.ok_or_else(|| format!("{}: {} is no decimal number of 64 bits: {}", self.operation, name, word))
+        let wrong = || format!("{}: {} is no decimal number of 64 bits{}", self.operation, name, self.shown(word));
+        number.ok_or_else(wrong)
+    }
+
+    /// Numbers with commas between them, `-` for none; one that is wrong is told by its place.
+    pub fn numbers(&mut self, names: &str, name: &str) -> Result<Vec<u64>, String> {
+        match self.word(names)? {
+            "-" => Ok(Vec::new()),
+            word => {
+                word.split(',').zip(1..).map(|(part, at)| self.decimal(&format!("{} {}", name, at), part)).collect()
+            }
+        }
+    }
+
+    /// A word at the end of a message, unless it may be a password or a part of one.
+    fn shown(&self, word: &str) -> String {
+        if self.operation == SECRET {
+            String::new()
+        } else {
+            format!(": {}", word)
+        }
     }
 
     /// A decimal number of 32 bits.
@@ -68,7 +96,7 @@ impl<'a> Words<'a> {
 
     /// Bytes as hex digits, `-` for none.
     pub fn bytes(&mut self, name: &str) -> Result<Vec<u8>, String> {
-        let word = self.next(name)?;
+        let word = self.word(name)?;
         if word == "-" {
             return Ok(Vec::new());
         }
@@ -81,7 +109,7 @@ impl<'a> Words<'a> {
     pub fn end(&self) -> Result<(), String> {
         match self.rest.get(self.at) {
             None => Ok(()),
-            Some(word) => Err(format!("{} has a word too many: {}", self.operation, word)),
+            Some(word) => Err(format!("{} has a word too many{}", self.operation, self.shown(word))),
         }
     }
 }
