@@ -10,7 +10,7 @@ use lib.Seq.{drop-cons, drop-drop}
 use lib.Dec.{eqb, ltb, leb}
 use borrow.Author.Needs.{needs}
 use borrow.Author.Tests.{eq-eqb, ne-eqb, le-leb, lt-leb, lt-ltb, le-ltb, eqb-true, eqb-false}
-use Rattle.ground.specs.Choice.{oneOf, pick, first, any, same}
+use Rattle.ground.specs.Choice.{oneOf, first, any, same}
 use Rattle.ground.proofs.Bools.{no-second}
 use Rattle.ground.proofs.Choices.{any-step}
 use Rattle.password.specs.declared.Edition.{Edition}
@@ -260,19 +260,19 @@ module _ (new l h : List ℕ) (r : Bool) (is : r ≡ badHistory l h) where
   check-judged e v b j = rw (← is, b) j
 
   pub asked-bad : (n k : ℕ) → r ≡ true → k ≡ verdictNo BadHistory → k ≡ plainVerdict n new l h
-  unfolding plainVerdict
+  unfolding plainVerdict first
   asked-bad n k b j = rw (← is, b) j
 
   pub asked-old : (n k : ℕ) (v : Verdict) → r ≡ false → n ≡ 111 → v ≡ judged E111 new (lasts l h) → k ≡ verdictNo v → k ≡ plainVerdict n new l h
-  unfolding plainVerdict pick verdictOf
+  unfolding plainVerdict first verdictOf
   asked-old n k v b a j i = rw (← is, b, a) (i ∙ ap verdictNo j)
 
   pub asked-new : (n k : ℕ) (v : Verdict) → r ≡ false → (n ≡ 111 → ⊥) → n ≡ 136 → v ≡ judged E136 new (lasts l h) → k ≡ verdictNo v → k ≡ plainVerdict n new l h
-  unfolding plainVerdict pick verdictOf
+  unfolding plainVerdict first verdictOf
   asked-new n k v b o a j i = rw (← is, b, a) (i ∙ ap verdictNo j)
 
   pub asked-other : (n : ℕ) → r ≡ false → (n ≡ 111 → ⊥) → (n ≡ 136 → ⊥) → 15 ≡ plainVerdict n new l h
-  unfolding plainVerdict pick
+  unfolding plainVerdict first
   asked-other n b o a = rw (← is, b, ne-eqb n 111 o, ne-eqb n 136 a)
 
 pub ruleset cases = (

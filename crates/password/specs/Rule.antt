@@ -4,7 +4,7 @@ use mathlib.Core.Bool.{Bool, true, false, not, cond, _&&_, _||_}
 use mathlib.Core.List.{List, [], _∷_}
 use lib.ListN.{length, take, drop}
 use lib.Dec.{eqb, ltb, leb}
-use Rattle.ground.specs.Choice.{oneOf, pick, first, any, same}
+use Rattle.ground.specs.Choice.{oneOf, first, any, same}
 use Rattle.password.specs.declared.Edition.{Edition}
 use Rattle.password.specs.declared.Edition.the-variants.{E111, E136}
 use Rattle.password.specs.declared.Class.{Class}
@@ -92,8 +92,12 @@ judged e new last = first (items e new last) Passes
 unfoldable pub verdictOf : Edition → List ℕ → List ℕ → List ℕ → Verdict
 verdictOf e new lengths history = cond (badHistory lengths history) BadHistory (judged e new (lasts lengths history))
 
--- the same of an edition's number, for the C call: another edition is 15, behind 23
+-- the same by numbers, for the C call: 23, then the edition's verdict, and 15 of another edition
 unfoldable pub plainVerdict : ℕ → List ℕ → List ℕ → List ℕ → ℕ
 plainVerdict n new lengths history =
-    let by : Edition → ℕ × ℕ = λ e. (editionNo e, verdictNo (verdictOf e new lengths history)) in
-    cond (badHistory lengths history) (verdictNo BadHistory) (pick n (by E111 ∷ by E136 ∷ []) 15)
+    first
+    ((badHistory lengths history, verdictNo BadHistory)
+    ∷ (eqb n (editionNo E111), verdictNo (verdictOf E111 new lengths history))
+    ∷ (eqb n (editionNo E136), verdictNo (verdictOf E136 new lengths history))
+    ∷ [])
+    15

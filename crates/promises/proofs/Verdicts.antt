@@ -170,7 +170,7 @@ numbered true v = refl
 numbered false v = refl
 
 pub number-of-verdict : said.NumberOfVerdict
-unfolding plainVerdict verdictOf pick
+unfolding plainVerdict verdictOf first
 number-of-verdict E111 new l h = numbered (badHistory l h) _
 number-of-verdict E136 new l h = numbered (badHistory l h) _
 
@@ -193,7 +193,7 @@ pub numbers-apart : said.NumbersApart
 numbers-apart v w e = sym (by-number v) ∙ ap verdictBy e ∙ by-number w
 
 pub other-edition : said.OtherEdition
-unfolding plainVerdict pick
+unfolding plainVerdict first
 other-edition n new l h other =
     (λ p. rw (history E111 new l h p, ne-eqb n 111 (other E111), ne-eqb n 136 (other E136)), λ p. rw (no-history E111 new l h p))
 

@@ -65,6 +65,6 @@ OtherEdition =
     (n : ℕ) (new lengths history : List ℕ) → ((e : Edition) → n ≡ editionNo e → ⊥)
     → (Adds lengths history → plainVerdict n new lengths history ≡ 15) × ((Adds lengths history → ⊥) → plainVerdict n new lengths history ≡ 23)
 
--- the same of the C call
+-- what 1.36 passes 1.11 passes, by the numbers of the C call
 abbrev pub PlainOldPassesToo : Type 0
 PlainOldPassesToo = (new lengths history : List ℕ) → plainVerdict 136 new lengths history ≡ 0 → plainVerdict 111 new lengths history ≡ 0
