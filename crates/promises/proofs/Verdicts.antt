@@ -70,15 +70,15 @@ has c lo hi new is =
     (λ b p. is b ∙ join (leb lo b) (leb b hi) (le-leb lo b (p .0)) (le-leb b hi (p .1))) in
     record { holds = λ z. let r = k .holds z in (r .0, r .1, r .2 .0, r .2 .1); fails = λ z p. k .fails z (p .0, p .1, (p .2, p .3)) }
 
-upper : (new : List ℕ) → Tests (lacks Upper new) (said.Has 65 90 new)
+upper : (new : List ℕ) → Tests (lacks Upper new) (said.HasUpper new)
 unfolding isOf
 upper new = has Upper 65 90 new (λ b. refl)
 
-lower : (new : List ℕ) → Tests (lacks Lower new) (said.Has 97 122 new)
+lower : (new : List ℕ) → Tests (lacks Lower new) (said.HasLower new)
 unfolding isOf
 lower new = has Lower 97 122 new (λ b. refl)
 
-digit : (new : List ℕ) → Tests (lacks Digit new) (said.Has 48 57 new)
+digit : (new : List ℕ) → Tests (lacks Digit new) (said.HasDigit new)
 unfolding isOf
 digit new = has Digit 48 57 new (λ b. refl)
 

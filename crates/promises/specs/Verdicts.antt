@@ -25,6 +25,15 @@ Long E136 new = 16 ≤ length new
 abbrev pub Has : ℕ → ℕ → List ℕ → Type 0
 Has lo hi new = (place : ℕ) × (place < length new) × (lo ≤ getD new place 0) × (getD new place 0 ≤ hi)
 
+abbrev pub HasUpper : List ℕ → Type 0
+HasUpper new = Has 65 90 new
+
+abbrev pub HasLower : List ℕ → Type 0
+HasLower new = Has 97 122 new
+
+abbrev pub HasDigit : List ℕ → Type 0
+HasDigit new = Has 48 57 new
+
 -- and one of the specials, which edition 1.11 does not ask for
 abbrev pub HasSpecial : Edition → List ℕ → Type 0
 HasSpecial E111 new = Unit
@@ -38,14 +47,14 @@ Again new lengths history = (k : ℕ) × (k < length lengths) × (take (getD len
 abbrev pub Means : Edition → List ℕ → List ℕ → List ℕ → Verdict → Type 0
 Means e new l h BadHistory = Adds l h → ⊥
 Means e new l h Short = Adds l h × (Long e new → ⊥)
-Means e new l h NoUpper = Adds l h × Long e new × (Has 65 90 new → ⊥)
-Means e new l h NoLower = Adds l h × Long e new × Has 65 90 new × (Has 97 122 new → ⊥)
-Means e new l h NoDigit = Adds l h × Long e new × Has 65 90 new × Has 97 122 new × (Has 48 57 new → ⊥)
-Means e new l h NoSpecial = Adds l h × Long e new × Has 65 90 new × Has 97 122 new × Has 48 57 new × (HasSpecial e new → ⊥)
-Means e new l h Used = Adds l h × Long e new × Has 65 90 new × Has 97 122 new × Has 48 57 new × HasSpecial e new × Again new l h
-Means e new l h Passes = Adds l h × Long e new × Has 65 90 new × Has 97 122 new × Has 48 57 new × HasSpecial e new × (Again new l h → ⊥)
+Means e new l h NoUpper = Adds l h × Long e new × (HasUpper new → ⊥)
+Means e new l h NoLower = Adds l h × Long e new × HasUpper new × (HasLower new → ⊥)
+Means e new l h NoDigit = Adds l h × Long e new × HasUpper new × HasLower new × (HasDigit new → ⊥)
+Means e new l h NoSpecial = Adds l h × Long e new × HasUpper new × HasLower new × HasDigit new × (HasSpecial e new → ⊥)
+Means e new l h Used = Adds l h × Long e new × HasUpper new × HasLower new × HasDigit new × HasSpecial e new × Again new l h
+Means e new l h Passes = Adds l h × Long e new × HasUpper new × HasLower new × HasDigit new × HasSpecial e new × (Again new l h → ⊥)
 
--- a verdict is given exactly where it means what is so
+-- a verdict is given exactly where what it means is so
 abbrev pub VerdictMeans : Type 0
 VerdictMeans = (e : Edition) (new lengths history : List ℕ) (v : Verdict) → (verdictOf e new lengths history ≡ v) ↔ Means e new lengths history v
 
