@@ -84,11 +84,11 @@ makeUp name edition new bytes = record { name = name; holds = same (through edit
 unfoldable pub bytes : List Check
 bytes =
     makeUp "upper case letters are A to Z" 111 (made 0 14 1 1) (range 65 26)
-    ∷ makeUp "in 1.36 too" 136 (made 0 14 1 1) (range 65 26)
+    ∷ makeUp "upper case letters in 1.36" 136 (made 0 14 1 1) (range 65 26)
     ∷ makeUp "lower case letters are a to z" 111 (made 14 0 1 1) (range 97 26)
-    ∷ makeUp "in 1.36 too" 136 (made 14 0 1 1) (range 97 26)
+    ∷ makeUp "lower case letters in 1.36" 136 (made 14 0 1 1) (range 97 26)
     ∷ makeUp "digits are 0 to 9" 111 (made 1 14 0 1) (range 48 10)
-    ∷ makeUp "in 1.36 too" 136 (made 1 14 0 1) (range 48 10)
+    ∷ makeUp "digits in 1.36" 136 (made 1 14 0 1) (range 48 10)
     ∷ makeUp "special are ! # $ & ( ) * @ ^, and neither % nor +" 136 (made 1 14 1 0) (33 ∷ 35 ∷ 36 ∷ 38 ∷ 40 ∷ 41 ∷ 42 ∷ 64 ∷ 94 ∷ [])
     ∷ []
 
