@@ -149,7 +149,7 @@ impl fmt::Display for Verdict {
 /// nothing written, so each password stays where its owner can wipe it.
 ///
 /// Characters are bytes, and none but those asked for are judged. The hub may still turn down what passes: it has a longest
-/// password, and lets nobody change one twice within a day.
+/// password, and by edition 1.11 nobody may change one twice within 24 hours.
 pub fn check(edition: Edition, password: &[u8], lengths: &[u64], history: &[u8]) -> Verdict {
     Verdict::given(raw::password(edition.number(), password, lengths, history))
 }
