@@ -263,7 +263,7 @@ unfolding promises-Mornings.twoBids promises-Mornings.better promises-Mornings.t
 promises-mornings = 0
 
 unfoldable promises-passwords : ℕ
-unfolding promises-Passwords.underLent promises-Passwords.joined promises-Passwords.under promises-Passwords.made promises-Passwords.sixteen promises-Passwords.eight promises-Passwords.items promises-Passwords.through promises-Passwords.range promises-Passwords.makeUp promises-Passwords.bytes promises-Passwords.borders promises-Passwords.others promises-Passwords.histories promises-Passwords.named promises-Passwords.editions
+unfolding promises-Passwords.underLent promises-Passwords.under promises-Passwords.made promises-Passwords.sixteen promises-Passwords.eight promises-Passwords.items promises-Passwords.passing promises-Passwords.range promises-Passwords.makeUp promises-Passwords.classes promises-Passwords.borders promises-Passwords.others promises-Passwords.histories promises-Passwords.named promises-Passwords.editions
 promises-passwords = 0
 
 unfoldable promises-phases : ℕ

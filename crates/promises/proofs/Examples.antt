@@ -442,9 +442,9 @@ pub passwordItems-hold : wrong Passwords.items ≡ []
 unfolding computes
 passwordItems-hold = refl
 
-pub passwordBytes-hold : wrong Passwords.bytes ≡ []
+pub passwordClasses-hold : wrong Passwords.classes ≡ []
 unfolding computes
-passwordBytes-hold = refl
+passwordClasses-hold = refl
 
 pub passwordBorders-hold : wrong Passwords.borders ≡ []
 unfolding computes

@@ -9,15 +9,12 @@ use lib.Dec.{eqb}
 use Rattle.ground.specs.Choice.{same}
 use Rattle.password.specs.Rule.{plainVerdict}
 use Rattle.promises.specs.Checks.{Check}
+use Rattle.promises.specs.Build.{joined}
 
 -- with the last passwords as they are lent, whatever their lengths: what 1.11 says, and what 1.36 says
 unfoldable pub underLent : String → List ℕ → List ℕ → List ℕ → ℕ → ℕ → Check
 underLent name new lengths history old now =
     record { name = name; holds = eqb (plainVerdict 111 new lengths history) old && eqb (plainVerdict 136 new lengths history) now }
-
-unfoldable pub joined : List (List ℕ) → List ℕ
-joined [] = []
-joined (p ∷ ps) = p ++ joined ps
 
 -- and with the last passwords one by one
 unfoldable pub under : String → List ℕ → List (List ℕ) → ℕ → ℕ → Check
@@ -68,10 +65,10 @@ items =
     ∷ under "other characters are not judged" (0 ∷ 10 ∷ 32 ∷ 127 ∷ 255 ∷ (made 1 8 1 1 ++ (0 ∷ []))) [] 0 0
     ∷ []
 
--- of the bytes below a number, those that go through with 0 behind a password under an edition
-unfoldable pub through : ℕ → List ℕ → ℕ → List ℕ
-through edition new zero = []
-through edition new (suc n) = through edition new n ++ cond (eqb (plainVerdict edition (new ++ (n ∷ [])) [] []) 0) (n ∷ []) []
+-- of the bytes below a number, those with which behind it a password passes under an edition
+unfoldable pub passing : ℕ → List ℕ → ℕ → List ℕ
+passing edition new zero = []
+passing edition new (suc n) = passing edition new n ++ cond (eqb (plainVerdict edition (new ++ (n ∷ [])) [] []) 0) (n ∷ []) []
 
 unfoldable pub range : ℕ → ℕ → List ℕ
 range from zero = []
@@ -79,10 +76,10 @@ range from (suc n) = from ∷ range (from + 1) n
 
 -- of all 256 bytes, those that make up for what a password of 16 lacks
 unfoldable pub makeUp : String → ℕ → List ℕ → List ℕ → Check
-makeUp name edition new bytes = record { name = name; holds = same (through edition new 256) bytes }
+makeUp name edition new bytes = record { name = name; holds = same (passing edition new 256) bytes }
 
-unfoldable pub bytes : List Check
-bytes =
+unfoldable pub classes : List Check
+classes =
     makeUp "upper case letters are A to Z" 111 (made 0 14 1 1) (range 65 26)
     ∷ makeUp "upper case letters in 1.36" 136 (made 0 14 1 1) (range 65 26)
     ∷ makeUp "lower case letters are a to z" 111 (made 14 0 1 1) (range 97 26)
