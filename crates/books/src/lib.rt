@@ -1,4 +1,6 @@
 // The lent table of books (document 01, "The book table"): a book message on it, and reading a row, or a side's rows, out of it.
+#![tactic(auto)]
+
 ghost use Rattle.std.specs.Prelude.{◌≡◌, true, ◌&&◌, ◌+◌, ◌-◌, ◌*◌, ◌<◌, ◌≤◌, length, drop};
 ghost use Rattle.slots.specs.Layout.{landed, count_in, cleared_in};
 ghost use Rattle.slots.specs.Code.Turns.{ready, slot_turn, within, place_turn, held_turn};

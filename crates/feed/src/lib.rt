@@ -1,4 +1,6 @@
 // One feed: its phases, the messages it takes in each, connects, arrivals and the badge (document 01, "The feed", "Answer numbers").
+#![tactic(auto)]
+
 mod arrivals;
 mod badges;
 mod changes;

@@ -1,4 +1,6 @@
 // One book: rows, two sides, the entries of a book message (document 01, "One unit", "The book table", "Entries, against a side of n rows").
+#![tactic(auto)]
+
 mod entries;
 mod sides;
 mod walking;

@@ -1,4 +1,6 @@
 // The program (document 01, example 10): one connection's bytes from standard input, then the books and how the run ended.
+#![tactic(auto)]
+
 ghost use Rattle.std.specs.Prelude.{◌≡◌, ◌+◌, ◌-◌, ◌≤◌, ◌<◌, min, length, take, drop, replicate, false, cond, [], ◌∷◌, ◌++◌};
 ghost use Rattle.std.proofs.Math.IntN.{sub_ℕ};
 ghost use Rattle.wire.specs.Number.{bias};

@@ -1,4 +1,6 @@
 // New passwords, judged before the hub judges them: the verdict of an edition's rule on the bytes lent. Nothing is written, and no byte is copied.
+#![tactic(auto)]
+
 ghost use Rattle.std.specs.Prelude.{◌≡◌, ◌&&◌, length};
 ghost use Rattle.ground.specs.Choice.{one_of, any, same};
 ghost use Rattle.password.specs.Promised.{CheckSays, AskedSays};

@@ -1,4 +1,6 @@
 // The library by plain C calls, for the screens: numbers, structs of numbers by value, and slices as pointer and length.
+#![tactic(auto)]
+
 ghost use Rattle.std.specs.Prelude.{◌≡◌};
 ghost use Rattle.screen.specs.Promised.{NewSays, ConnectSays, ArriveSays, FrameSays, CutSays, LinkSays, ScrapSays, BadgeSays, WhySays, RowSays, SideSays, StripSays, PasswordSays, VersionSays};
 ghost use Rattle.feed.specs.Steps.{lent};

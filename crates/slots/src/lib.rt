@@ -1,4 +1,6 @@
 // A lent table of 64-bit words as slots of some width (document 01, "The book table"): word 0 of a slot is its code, 0 where it is free.
+#![tactic(auto)]
+
 ghost use Rattle.std.specs.Prelude.{◌≡◌, ◌<◌};
 ghost use Rattle.slots.specs.Slots.{slot_count, slots_of, lowest, place, cleared};
 

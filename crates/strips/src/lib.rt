@@ -1,4 +1,6 @@
 // Price strips (document 02, request 2): the five messages that bring them, a second lent table that keeps them, and reading one.
+#![tactic(auto)]
+
 mod forms;
 mod tables;
 mod words;

@@ -1,4 +1,6 @@
 // Numbers in bytes, and the unit at the front of a stream (document 01, "One unit").
+#![tactic(auto)]
+
 ghost use Rattle.std.specs.Prelude.{◌≡◌, ◌+◌, ◌^◌, ◌≤◌, ◌<◌, length, drop};
 ghost use Rattle.std.proofs.Math.IntN.{sub_ℕ};
 ghost use Rattle.wire.specs.Number.{field, bias, biased as biased_of};
