@@ -19,7 +19,7 @@ use ladder::{BOOK_WORDS, DEPTH, Row, Walked};
 use slots::{MOST, Slot};
 
 // What reading a row gives: the answer, and with answer 0 the row, its price signed as sent.
-#[derive(Drop)]
+#[derive(Clone, Copy)]
 pub struct RowRead {
     pub answer: u64,
     pub price: i64,
@@ -29,7 +29,7 @@ pub struct RowRead {
 
 // A row of a side that is read at once, its price signed as sent.
 #[repr(C)]
-#[derive(Drop)]
+#[derive(Clone, Copy)]
 pub struct Level {
     pub price: i64,
     pub quantity: u64,
@@ -37,7 +37,7 @@ pub struct Level {
 }
 
 // What reading a side gives: the answer, and with answer 0 how many rows there are, and the rows, best first. Behind the count all is 0.
-#[derive(Drop)]
+#[derive(Clone, Copy)]
 pub struct SideRead {
     pub answer: u64,
     pub count: u64,

@@ -17,7 +17,7 @@ pub use phases::{phase_number, phase_of};
 pub use reasons::why_asked;
 
 // The phases, in the order in which they count from 0.
-#[derive(Drop)]
+#[derive(Clone, Copy)]
 pub enum Phase {
     Idle,
     WaitKey,
@@ -30,7 +30,7 @@ pub enum Phase {
 
 // A feed. `next` is the next SeqNum, `internal` the last internal number, `heard` the last heard time, `limit` the silence limit;
 // `fresh` tells whether the last accepted connect was fresh.
-#[derive(Drop)]
+#[derive(Clone, Copy)]
 pub struct Feed {
     pub phase: Phase,
     pub next: u64,
@@ -43,7 +43,7 @@ pub struct Feed {
 
 // An answer, by what document 01's table says of the feed afterwards: unchanged; Lost; Lost and not whole; the number advances, heard;
 // as told of what is taken, heard.
-#[derive(Drop)]
+#[derive(Clone, Copy)]
 pub enum Answer {
     Keep(u64),
     Lose(u64),
@@ -53,7 +53,7 @@ pub enum Answer {
 }
 
 // What a call hands back: document 01's answer number, the bytes used, the feed after it, and how many rows were dropped.
-#[derive(Drop)]
+#[derive(Clone, Copy)]
 pub struct Given {
     pub answer: u64,
     pub used: usize,
@@ -62,7 +62,7 @@ pub struct Given {
 }
 
 // What a frame's units come to: the last answer, how many were accepted, the bytes that they used, the feed after them, and the rows dropped by all.
-#[derive(Drop)]
+#[derive(Clone, Copy)]
 pub struct Frame {
     pub answer: u64,
     pub accepted: u64,
@@ -72,14 +72,14 @@ pub struct Frame {
 }
 
 // A connect is fresh or resuming.
-#[derive(Drop)]
+#[derive(Clone, Copy)]
 pub enum Link {
     Fresh,
     Resuming,
 }
 
 // The badges, in the order of their numbers from 0.
-#[derive(Drop)]
+#[derive(Clone, Copy)]
 pub enum Badge {
     Stale,
     Green,
@@ -87,7 +87,7 @@ pub enum Badge {
 }
 
 // The session's messages: 1105, 1102, 1103, 1202, 203; and 1101 and 1201, which only the client sends.
-#[derive(Drop)]
+#[derive(Clone, Copy)]
 pub enum Session {
     SendKey,
     Logon,
@@ -98,21 +98,21 @@ pub enum Session {
 }
 
 // The market messages: type 53; those of the price strip; and those that are passed over.
-#[derive(Drop)]
+#[derive(Clone, Copy)]
 pub enum Datum {
     Book,
     Strip,
     Other,
 }
 
-#[derive(Drop)]
+#[derive(Clone, Copy)]
 pub enum Kind {
     Session(Session),
     Market(Datum),
 }
 
 // What a logon's status does: Live; Refreshing; stays; Closed; not listed.
-#[derive(Drop)]
+#[derive(Clone, Copy)]
 pub enum Status {
     Opens,
     Refills,

@@ -53,14 +53,14 @@ pub const DELETE: u64 = 2;
 pub const CLEAR: u64 = 74;
 
 // The two sides.
-#[derive(Drop)]
+#[derive(Clone, Copy)]
 pub enum Way {
     Bid,
     Offer,
 }
 
 // A row of a side. The price is the price word: the price sent, plus 2,147,483,648.
-#[derive(Drop)]
+#[derive(Clone, Copy)]
 pub struct Row {
     pub price: u64,
     pub quantity: u64,
@@ -68,7 +68,7 @@ pub struct Row {
 }
 
 // An entry of a book message, its numbers as sent but for the price, which is the row's price word.
-#[derive(Drop)]
+#[derive(Clone, Copy)]
 pub struct Entry {
     pub row: Row,
     pub side: u64,
@@ -77,7 +77,7 @@ pub struct Entry {
 }
 
 // What an entry makes of a side: its ten rows and its count, whether a row was dropped, and the row, zero where none was.
-#[derive(Drop)]
+#[derive(Clone, Copy)]
 pub struct Applied {
     pub rows: [Row; DEPTH],
     pub count: usize,
@@ -86,7 +86,7 @@ pub struct Applied {
 }
 
 // What a walk over the entries of a message says: its answer, and how many rows they dropped.
-#[derive(Drop)]
+#[derive(Clone, Copy)]
 pub struct Walked {
     pub answer: u64,
     pub dropped: u64,

@@ -11,7 +11,7 @@ use feed::Feed;
 const LEAST_HOLD: usize = wire::HEADER_BYTES + 2;
 
 // What has come asks for: more bytes; an answer of 22; a finished unit of so many bytes to go through the feed.
-#[derive(Drop)]
+#[derive(Clone, Copy)]
 pub enum Look {
     Waits,
     TooLong,
@@ -19,7 +19,7 @@ pub enum Look {
 }
 
 // A feed, how many bytes wait at the front of its holding buffer, and whether what comes is dropped.
-#[derive(Drop)]
+#[derive(Clone, Copy)]
 pub struct Line {
     pub feed: Feed,
     pub held: usize,
@@ -27,7 +27,7 @@ pub struct Line {
 }
 
 // What a connect hands back: document 01's answer number, or 22, and the line after it.
-#[derive(Drop)]
+#[derive(Clone, Copy)]
 pub struct Linked {
     pub answer: u64,
     pub line: Line,
@@ -35,7 +35,7 @@ pub struct Linked {
 
 // What a scrap comes to: whether there is an answer, the last one, how many units were accepted, the bytes of the scrap used, the line after it, and the
 // rows dropped by all its units.
-#[derive(Drop)]
+#[derive(Clone, Copy)]
 pub struct Heard {
     pub said: bool,
     pub answer: u64,

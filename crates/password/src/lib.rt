@@ -8,14 +8,14 @@ ghost use Rattle.password.specs.declared.Class.TheVariants.{Special};
 ghost use Rattle.password.specs.Rule.{shortest, asks_special, between, is_of, lacks, total, misses, bad_history, lasts, judged, verdict_no};
 
 // The editions of the exchange's document whose rules are known: 1.11 and 1.36.
-#[derive(Drop)]
+#[derive(Clone, Copy)]
 pub enum Edition {
     E111,
     E136,
 }
 
 // The classes of characters that a rule asks for.
-#[derive(Drop)]
+#[derive(Clone, Copy)]
 pub enum Class {
     Upper,
     Lower,
@@ -24,7 +24,7 @@ pub enum Class {
 }
 
 // What a new password gets: it passes, or the history is not one, or the first item that fails.
-#[derive(Drop)]
+#[derive(Clone, Copy)]
 pub enum Verdict {
     Passes,
     BadHistory,

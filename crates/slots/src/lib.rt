@@ -8,7 +8,7 @@ ghost use Rattle.slots.specs.Slots.{slot_count, slots_of, lowest, place, cleared
 pub const MOST: usize = 4096;
 
 // Where a code belongs: the lowest slot that has it; else the lowest free slot; else nowhere.
-#[derive(Drop)]
+#[derive(Clone, Copy)]
 pub enum Slot {
     Held(usize),
     Free(usize),

@@ -20,7 +20,7 @@ const VALUES: usize = 9;
 const SPARE_AT: usize = 11;
 
 // What a field brings: a price; a quantity; the direction of an imbalance; its quantity, which counts only beside a direction.
-#[derive(Drop)]
+#[derive(Clone, Copy)]
 pub enum Sort {
     Price,
     Quantity,
@@ -29,7 +29,7 @@ pub enum Sort {
 }
 
 // A field of a message: where it is, how many bytes it has, what it brings, and the number of its value.
-#[derive(Drop)]
+#[derive(Clone, Copy)]
 pub struct Field {
     pub at: usize,
     pub width: usize,
@@ -38,7 +38,7 @@ pub struct Field {
 }
 
 // A message: its size, the number of its first value, and how many it brings.
-#[derive(Drop)]
+#[derive(Clone, Copy)]
 pub struct Shape {
     pub size: usize,
     pub first: usize,
@@ -46,14 +46,14 @@ pub struct Shape {
 }
 
 // A strip: bit k of the flags is set once value k has come.
-#[derive(Drop)]
+#[derive(Clone, Copy)]
 pub struct Strip {
     pub flags: u64,
     pub values: [u64; VALUES],
 }
 
 // What reading a strip gives: the answer, and with answer 0 the flags and the values, prices signed as sent, 0 where none has come.
-#[derive(Drop)]
+#[derive(Clone, Copy)]
 pub struct StripRead {
     pub answer: u64,
     pub flags: u64,

@@ -23,7 +23,7 @@ const SIZED_BYTES: usize = HEADER_BYTES + 2;
 pub const CODE_AT: usize = 4;
 
 // What stands at the front of a stream: more bytes are wanted; a header alone; a header and a message of `size` bytes behind it.
-#[derive(Drop)]
+#[derive(Clone, Copy)]
 pub enum Unit {
     More,
     Heartbeat,
@@ -211,7 +211,7 @@ fn message_in(s: &[u8], size: usize) -> &[u8]
 }
 
 // A place in a stream, by which units are taken off it.
-#[derive(Drop)]
+#[derive(Clone, Copy)]
 pub struct Cursor {
     pub at: usize,
 }

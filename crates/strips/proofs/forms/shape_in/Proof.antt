@@ -1,6 +1,0 @@
-use Rattle.strips.proofs.Lists.{lists}
-use Rattle.strips.proofs.forms.shape_in.Statement.{statement}
-use Rattle.strips.proofs.forms.shape_in.Tie as tie
-
-pub shape_in_spec : {M : Type 1} → statement M
-shape_in_spec = tie.close (tie.spec (λ c κs. search lists) (λ c κs. search lists) (λ c. search lists))

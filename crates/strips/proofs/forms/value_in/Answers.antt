@@ -1,0 +1,26 @@
+use Rattle.strips.proofs.Lists.{lists}
+use Rattle.strips.proofs.forms.value_in.Goals as goal
+
+pub u32_in-requires : goal.u32_in-requires
+u32_in-requires c = search lists
+
+pub u64_in-requires : goal.u64_in-requires
+u64_in-requires c = search lists
+
+pub u8_in-requires : goal.u8_in-requires
+u8_in-requires c = search lists
+
+pub imbalance_in-requires : goal.imbalance_in-requires
+imbalance_in-requires c = search lists
+
+pub returns-in-Price : goal.returns-in-Price
+returns-in-Price c = search lists
+
+pub returns-in-Quantity : goal.returns-in-Quantity
+returns-in-Quantity c = search lists
+
+pub returns-in-Direction : goal.returns-in-Direction
+returns-in-Direction c = search lists
+
+pub returns-in-Imbalance : goal.returns-in-Imbalance
+returns-in-Imbalance c = search lists

@@ -1,8 +1,0 @@
-use Rattle.strips.proofs.Blocks.{blocks}
-use Rattle.strips.proofs.words.is_sound.Statement.{statement}
-use Rattle.strips.proofs.words.is_sound.Tie as tie
-
-pub is_sound_spec : {M : Type 1} → statement M
-is_sound_spec =
-    tie.close
-    (tie.spec (λ c. search blocks) (λ c. search blocks) (λ c κs. search blocks) (λ c κs. search blocks) (λ c. search blocks))
