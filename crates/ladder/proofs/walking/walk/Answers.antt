@@ -1,4 +1,5 @@
-use Rattle.ladder.proofs.Walks.{walking}
+use mathlib.Core.Bool.{true}
+use Rattle.ladder.proofs.Walks.{walking, walk_side, fits_told}
 use Rattle.ladder.proofs.walking.walk.Goals as goal
 
 pub walk-init : goal.walk-init
@@ -11,7 +12,13 @@ pub apply-applied-requires : goal.apply-applied-requires
 apply-applied-requires c = search walking
 
 pub walk-preserved : goal.walk-preserved
-walk-preserved c = search walking
+walk-preserved c =
+    let h = c.walk in
+    walk_side _ _ _ _ _ _ _ h.rows h.counts h.dropped h.i h.invariant c.if-n-i.false c.entry_at-e.result c.entry_at-e.ensures c.apply-applied.result c.word_if-dropped.result
+    c.if-e-eq-CLEAR.false c.if-e-gt-OFFER.false
+    (fits_told h.rows h.counts c.entry_at-e.result c.way_of-way.result true c.fits_at.result c.place_above-up.result h.invariant.sides c.if-e-gt-OFFER.false
+    c.if-level-lt1.false c.if-level-gt-DEPTH.false c.way_of-way.ensures c.place_above-up.ensures c.fits_at.ensures c.if-fits_at.true)
+    c.apply-applied.ensures c.word_if-dropped.ensures
 
 pub returns-then-n-i : goal.returns-then-n-i
 returns-then-n-i c = search walking
