@@ -1,3 +1,4 @@
+use Rattle.strips.specs.Words.{value_count}
 use Prim.Native.Nat.{◌-◌}
 use Rattle.strips.proofs.Blocks.{Judging}
 use Rattle.strips.proofs.Strip.is_sound.Given as goal
