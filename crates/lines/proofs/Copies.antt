@@ -27,12 +27,12 @@ copy_none d at s n f g = record { so_far = paste-zero d at s; upto = omega arith
 module _ (d₀ : List ℕ) (at : ℕ) (s : List ℕ) (n : ℕ) (d : List ℕ) (j : ℕ) (c : Copied d₀ at s n d j) where
   pub copy_more : j < n → Copied d₀ at s n (set d (at + j) (get_or s j 0)) (j + 1)
   copy_more h =
-      let p : at + j < length d₀ = omega (arith, c.ranges) in
+      let p : at + j < length d₀ = omega (arith, c.fits) in
       let q : j < length s = omega (arith, c.source) in
       record {
         so_far = rw (c.so_far, add-one) (paste-suc d₀ at s j 0 p q);
         upto = omega arith;
-        fits = c.ranges;
+        fits = c.fits;
         source = c.source;
         same = length-set d (at + j) (get_or s j 0) ∙ c.same;
       }
