@@ -1,325 +1,325 @@
 -- All definitions that compute, for the examples: written by tools/computes. Assumes nothing.
-use Prim.Native.Nat.{ℕ}
-use mathlib.Core.Option.{bind}
-use Rattle.ground.specs.Choice as ground-Choice
-use Rattle.wire.specs.Codes as wire-Codes
-use Rattle.wire.specs.Number as wire-Number
-use Rattle.wire.specs.Units as wire-Units
-use Rattle.slots.specs.Code.Turns as slots-Code-Turns
-use Rattle.slots.specs.Layout as slots-Layout
-use Rattle.slots.specs.Slots as slots-Slots
-use Rattle.ladder.specs.Code.Arrays as ladder-Code-Arrays
-use Rattle.ladder.specs.Code.Loading as ladder-Code-Loading
-use Rattle.ladder.specs.Message as ladder-Message
-use Rattle.ladder.specs.Sides as ladder-Sides
-use Rattle.ladder.specs.Walk as ladder-Walk
-use Rattle.ladder.specs.Words as ladder-Words
-use Rattle.books.specs.Code.Rows as books-Code-Rows
-use Rattle.books.specs.Code.Turns as books-Code-Turns
-use Rattle.books.specs.Reading as books-Reading
-use Rattle.books.specs.Table as books-Table
-use Rattle.strips.specs.Code.Shapes as strips-Code-Shapes
-use Rattle.strips.specs.Forms as strips-Forms
-use Rattle.strips.specs.Reading as strips-Reading
-use Rattle.strips.specs.Table as strips-Table
-use Rattle.strips.specs.Words as strips-Words
-use Rattle.feed.specs.Answers as feed-Answers
-use Rattle.feed.specs.Code.Judging as feed-Code-Judging
-use Rattle.feed.specs.Events as feed-Events
-use Rattle.feed.specs.Feeds as feed-Feeds
-use Rattle.feed.specs.Frames as feed-Frames
-use Rattle.feed.specs.Messages as feed-Messages
-use Rattle.feed.specs.Program as feed-Program
-use Rattle.feed.specs.Reasons as feed-Reasons
-use Rattle.feed.specs.Steps as feed-Steps
-use Rattle.lines.specs.Looks as lines-Looks
-use Rattle.lines.specs.Scraps as lines-Scraps
-use Rattle.password.specs.Rule as password-Rule
-use Rattle.promises.specs.Answering as promises-Answering
-use Rattle.promises.specs.Build as promises-Build
-use Rattle.promises.specs.Checks as promises-Checks
-use Rattle.promises.specs.Decisions as promises-Decisions
-use Rattle.promises.specs.Demands as promises-Demands
-use Rattle.promises.specs.Desk as promises-Desk
-use Rattle.promises.specs.Dropped as promises-Dropped
-use Rattle.promises.specs.Emptied as promises-Emptied
-use Rattle.promises.specs.Entries as promises-Entries
-use Rattle.promises.specs.Fallen as promises-Fallen
-use Rattle.promises.specs.Frames as promises-Frames
-use Rattle.promises.specs.GoodMorning as promises-GoodMorning
-use Rattle.promises.specs.Leaves as promises-Leaves
-use Rattle.promises.specs.Ledger as promises-Ledger
-use Rattle.promises.specs.Mornings as promises-Mornings
-use Rattle.promises.specs.Passwords as promises-Passwords
-use Rattle.promises.specs.Phases as promises-Phases
-use Rattle.promises.specs.Pieces as promises-Pieces
-use Rattle.promises.specs.Refusals as promises-Refusals
-use Rattle.promises.specs.Repaints as promises-Repaints
-use Rattle.promises.specs.Runs as promises-Runs
-use Rattle.promises.specs.Scraps as promises-Scraps
-use Rattle.promises.specs.Section6 as promises-Section6
-use Rattle.promises.specs.Sizes as promises-Sizes
-use Rattle.promises.specs.Statuses as promises-Statuses
-use Rattle.promises.specs.Strips as promises-Strips
-use Rattle.promises.specs.Tables as promises-Tables
-use Rattle.promises.specs.Torn as promises-Torn
-use Rattle.promises.specs.Traps as promises-Traps
-use Rattle.promises.specs.Widths as promises-Widths
+use Rattle.std.specs.Prelude.{ℕ}
+use Rattle.std.proofs.Math.Option.{bind}
+use Rattle.ground.specs.Choice as ground_Choice
+use Rattle.wire.specs.Codes as wire_Codes
+use Rattle.wire.specs.Number as wire_Number
+use Rattle.wire.specs.Units as wire_Units
+use Rattle.slots.specs.Code.Turns as slots_Code_Turns
+use Rattle.slots.specs.Layout as slots_Layout
+use Rattle.slots.specs.Slots as slots_Slots
+use Rattle.ladder.specs.Code.Arrays as ladder_Code_Arrays
+use Rattle.ladder.specs.Code.Loading as ladder_Code_Loading
+use Rattle.ladder.specs.Message as ladder_Message
+use Rattle.ladder.specs.Sides as ladder_Sides
+use Rattle.ladder.specs.Walk as ladder_Walk
+use Rattle.ladder.specs.Words as ladder_Words
+use Rattle.books.specs.Code.Rows as books_Code_Rows
+use Rattle.books.specs.Code.Turns as books_Code_Turns
+use Rattle.books.specs.Reading as books_Reading
+use Rattle.books.specs.Table as books_Table
+use Rattle.strips.specs.Code.Shapes as strips_Code_Shapes
+use Rattle.strips.specs.Forms as strips_Forms
+use Rattle.strips.specs.Reading as strips_Reading
+use Rattle.strips.specs.Table as strips_Table
+use Rattle.strips.specs.Words as strips_Words
+use Rattle.feed.specs.Answers as feed_Answers
+use Rattle.feed.specs.Code.Judging as feed_Code_Judging
+use Rattle.feed.specs.Events as feed_Events
+use Rattle.feed.specs.Feeds as feed_Feeds
+use Rattle.feed.specs.Frames as feed_Frames
+use Rattle.feed.specs.Messages as feed_Messages
+use Rattle.feed.specs.Program as feed_Program
+use Rattle.feed.specs.Reasons as feed_Reasons
+use Rattle.feed.specs.Steps as feed_Steps
+use Rattle.lines.specs.Looks as lines_Looks
+use Rattle.lines.specs.Scraps as lines_Scraps
+use Rattle.password.specs.Rule as password_Rule
+use Rattle.promises.specs.Answering as promises_Answering
+use Rattle.promises.specs.Build as promises_Build
+use Rattle.promises.specs.Checks as promises_Checks
+use Rattle.promises.specs.Decisions as promises_Decisions
+use Rattle.promises.specs.Demands as promises_Demands
+use Rattle.promises.specs.Desk as promises_Desk
+use Rattle.promises.specs.Dropped as promises_Dropped
+use Rattle.promises.specs.Emptied as promises_Emptied
+use Rattle.promises.specs.Entries as promises_Entries
+use Rattle.promises.specs.Fallen as promises_Fallen
+use Rattle.promises.specs.Frames as promises_Frames
+use Rattle.promises.specs.GoodMorning as promises_GoodMorning
+use Rattle.promises.specs.Leaves as promises_Leaves
+use Rattle.promises.specs.Ledger as promises_Ledger
+use Rattle.promises.specs.Mornings as promises_Mornings
+use Rattle.promises.specs.Passwords as promises_Passwords
+use Rattle.promises.specs.Phases as promises_Phases
+use Rattle.promises.specs.Pieces as promises_Pieces
+use Rattle.promises.specs.Refusals as promises_Refusals
+use Rattle.promises.specs.Repaints as promises_Repaints
+use Rattle.promises.specs.Runs as promises_Runs
+use Rattle.promises.specs.Scraps as promises_Scraps
+use Rattle.promises.specs.Section6 as promises_Section6
+use Rattle.promises.specs.Sizes as promises_Sizes
+use Rattle.promises.specs.Statuses as promises_Statuses
+use Rattle.promises.specs.Strips as promises_Strips
+use Rattle.promises.specs.Tables as promises_Tables
+use Rattle.promises.specs.Torn as promises_Torn
+use Rattle.promises.specs.Traps as promises_Traps
+use Rattle.promises.specs.Widths as promises_Widths
 
 unfoldable ground_choice : ℕ
-unfolding ground-Choice.one_of ground-Choice.pick ground-Choice.first ground-Choice.all ground-Choice.any ground-Choice.same
+unfolding ground_Choice.one_of ground_Choice.pick ground_Choice.first ground_Choice.all ground_Choice.any ground_Choice.same
 ground_choice = 0
 
 unfoldable wire_codes : ℕ
-unfolding wire-Codes.listed_code
+unfolding wire_Codes.listed_code
 wire_codes = 0
 
 unfoldable wire_number : ℕ
-unfolding wire-Number.field wire-Number.biased
+unfolding wire_Number.field wire_Number.biased
 wire_number = 0
 
 unfoldable wire_units : ℕ
-unfolding wire-Units.unit_of
+unfolding wire_Units.unit_of
 wire_units = 0
 
 unfoldable slots_code_turns : ℕ
-unfolding slots-Code-Turns.slot_turn slots-Code-Turns.place_turn slots-Code-Turns.held_turn
+unfolding slots_Code_Turns.slot_turn slots_Code_Turns.place_turn slots_Code_Turns.held_turn
 slots_code_turns = 0
 
 unfoldable slots_layout : ℕ
-unfolding slots-Layout.none_free slots-Layout.misfit slots-Layout.or_as_it_was slots-Layout.unsound_at slots-Layout.value_at slots-Layout.written slots-Layout.answer slots-Layout.stepped slots-Layout.with_code slots-Layout.turns slots-Layout.value_after slots-Layout.values_after
+unfolding slots_Layout.none_free slots_Layout.misfit slots_Layout.or_as_it_was slots_Layout.unsound_at slots_Layout.value_at slots_Layout.written slots_Layout.answer slots_Layout.stepped slots_Layout.with_code slots_Layout.turns slots_Layout.value_after slots_Layout.values_after
 slots_layout = 0
 
 unfoldable slots_slots : ℕ
-unfolding slots-Slots.blocks slots-Slots.lowest slots-Slots.place slots-Slots.flat slots-Slots.cleared
+unfolding slots_Slots.blocks slots_Slots.lowest slots_Slots.place slots_Slots.flat slots_Slots.cleared
 slots_slots = 0
 
 unfoldable ladder_code_arrays : ℕ
-unfolding ladder-Code-Arrays.fits_at ladder-Code-Arrays.ten_after ladder-Code-Arrays.count_after ladder-Code-Arrays.drops_tenth
+unfolding ladder_Code_Arrays.fits_at ladder_Code_Arrays.ten_after ladder_Code_Arrays.count_after ladder_Code_Arrays.drops_tenth
 ladder_code_arrays = 0
 
 unfoldable ladder_code_loading : ℕ
-unfolding ladder-Code-Loading.in_order ladder-Code-Loading.used_of ladder-Code-Loading.lows_of ladder-Code-Loading.sound_words
+unfolding ladder_Code_Loading.in_order ladder_Code_Loading.used_of ladder_Code_Loading.lows_of ladder_Code_Loading.sound_words
 ladder_code_loading = 0
 
 unfoldable ladder_message : ℕ
-unfolding ladder-Message.entries_from ladder-Message.book_sized ladder-Message.listed_side ladder-Message.listed_rank ladder-Message.listed_entry ladder-Message.listed_book
+unfolding ladder_Message.entries_from ladder_Message.book_sized ladder_Message.listed_side ladder_Message.listed_rank ladder_Message.listed_entry ladder_Message.listed_book
 ladder_message = 0
 
 unfoldable ladder_sides : ℕ
-unfolding ladder-Sides.better ladder-Sides.has ladder-Sides.new_fits ladder-Sides.new_rows ladder-Sides.pushed_out ladder-Sides.change_fits ladder-Sides.change_rows ladder-Sides.delete_fits ladder-Sides.delete_rows ladder-Sides.fits ladder-Sides.rows_after ladder-Sides.fell_from ladder-Sides.was_dropped ladder-Sides.on_side
+unfolding ladder_Sides.better ladder_Sides.has ladder_Sides.new_fits ladder_Sides.new_rows ladder_Sides.pushed_out ladder_Sides.change_fits ladder_Sides.change_rows ladder_Sides.delete_fits ladder_Sides.delete_rows ladder_Sides.fits ladder_Sides.rows_after ladder_Sides.fell_from ladder_Sides.was_dropped ladder_Sides.on_side
 ladder_sides = 0
 
 unfoldable ladder_walk : ℕ
-unfolding ladder-Walk.on_book ladder-Walk.walk ladder-Walk.fell_off ladder-Walk.dropped
+unfolding ladder_Walk.on_book ladder_Walk.walk ladder_Walk.fell_off ladder_Walk.dropped
 ladder_walk = 0
 
 unfoldable ladder_words : ℕ
-unfolding ladder-Words.rows_from ladder-Words.no_rows ladder-Words.side_words ladder-Words.words_of ladder-Words.best_first ladder-Words.bounded ladder-Words.zero_row ladder-Words.sound_side ladder-Words.sound
+unfolding ladder_Words.rows_from ladder_Words.no_rows ladder_Words.side_words ladder_Words.words_of ladder_Words.best_first ladder_Words.bounded ladder_Words.zero_row ladder_Words.sound_side ladder_Words.sound
 ladder_words = 0
 
 unfoldable books_code_rows : ℕ
-unfolding books-Code-Rows.row_of_side books-Code-Rows.row_of_book books-Code-Rows.side_of_words books-Code-Rows.side_of_book
+unfolding books_Code_Rows.row_of_side books_Code_Rows.row_of_book books_Code_Rows.side_of_words books_Code_Rows.side_of_book
 books_code_rows = 0
 
 unfoldable books_code_turns : ℕ
-unfolding books-Code-Turns.slot_drops books-Code-Turns.place_drops
+unfolding books_Code_Turns.slot_drops books_Code_Turns.place_drops
 books_code_turns = 0
 
 unfoldable books_reading : ℕ
-unfolding books-Reading.no_book books-Reading.read_answer books-Reading.read_row books-Reading.side_answer books-Reading.reads_from books-Reading.row_count books-Reading.side_by books-Reading.read_side
+unfolding books_Reading.no_book books_Reading.read_answer books_Reading.read_row books_Reading.side_answer books_Reading.reads_from books_Reading.row_count books_Reading.side_by books_Reading.read_side
 books_reading = 0
 
 unfoldable books_table : ℕ
-unfolding books-Table.unsound books-Table.no_slot books-Table.misfits books-Table.book_answer books-Table.books_after books-Table.rows_dropped
+unfolding books_Table.unsound books_Table.no_slot books_Table.misfits books_Table.book_answer books_Table.books_after books_Table.rows_dropped
 books_table = 0
 
 unfoldable strips_code_shapes : ℕ
-unfolding strips-Code-Shapes.shape_of strips-Code-Shapes.field_of strips-Code-Shapes.fields_from strips-Code-Shapes.width_of strips-Code-Shapes.strip_of_block
+unfolding strips_Code_Shapes.shape_of strips_Code_Shapes.field_of strips_Code_Shapes.fields_from strips_Code_Shapes.width_of strips_Code_Shapes.strip_of_block
 strips_code_shapes = 0
 
 unfoldable strips_forms : ℕ
-unfolding strips-Forms.form_of strips-Forms.is_strip strips-Forms.strip_sized strips-Forms.fields_of strips-Forms.value_of strips-Forms.listed_as strips-Forms.listed_strip
+unfolding strips_Forms.form_of strips_Forms.is_strip strips_Forms.strip_sized strips_Forms.fields_of strips_Forms.value_of strips_Forms.listed_as strips_Forms.listed_strip
 strips_forms = 0
 
 unfoldable strips_reading : ℕ
-unfolding strips-Reading.no_strip strips-Reading.read_answer strips-Reading.price_shown strips-Reading.read_strip
+unfolding strips_Reading.no_strip strips_Reading.read_answer strips_Reading.price_shown strips_Reading.read_strip
 strips_reading = 0
 
 unfoldable strips_table : ℕ
-unfolding strips-Table.unsound strips-Table.no_slot strips-Table.strips_after
+unfolding strips_Table.unsound strips_Table.no_slot strips_Table.strips_after
 strips_table = 0
 
 unfoldable strips_words : ℕ
-unfolding strips-Words.words_from strips-Words.strip_of strips-Words.words_of strips-Words.come strips-Words.legal strips-Words.sound_from strips-Words.sound_strip strips-Words.sound strips-Words.stored strips-Words.stored_all strips-Words.strip_after
+unfolding strips_Words.words_from strips_Words.strip_of strips_Words.words_of strips_Words.come strips_Words.legal strips_Words.sound_from strips_Words.sound_strip strips_Words.sound strips_Words.stored strips_Words.stored_all strips_Words.strip_after
 strips_words = 0
 
 unfoldable feed_answers : ℕ
-unfolding feed-Answers.number feed-Answers.arrives feed-Answers.lacks_need feed-Answers.is_more feed-Answers.is_too_long feed-Answers.is_next feed-Answers.allowed feed-Answers.seen feed-Answers.unsound_for feed-Answers.no_slot_for feed-Answers.misfits_for feed-Answers.passed feed-Answers.line_tests feed-Answers.table_tests feed-Answers.tests
+unfolding feed_Answers.number feed_Answers.arrives feed_Answers.lacks_need feed_Answers.is_more feed_Answers.is_too_long feed_Answers.is_next feed_Answers.allowed feed_Answers.seen feed_Answers.unsound_for feed_Answers.no_slot_for feed_Answers.misfits_for feed_Answers.passed feed_Answers.line_tests feed_Answers.table_tests feed_Answers.tests
 feed_answers = 0
 
 unfoldable feed_code_judging : ℕ
-unfolding feed-Code-Judging.beats feed-Code-Judging.on_tables
+unfolding feed_Code_Judging.beats feed_Code_Judging.on_tables
 feed_code_judging = 0
 
 unfoldable feed_events : ℕ
-unfolding feed-Events.time_of feed-Events.cut_from feed-Events.news feed-Events.on_message feed-Events.news_size feed-Events.offered
+unfolding feed_Events.time_of feed_Events.cut_from feed_Events.news feed_Events.on_message feed_Events.news_size feed_Events.offered
 feed_events = 0
 
 unfoldable feed_feeds : ℕ
-unfolding feed-Feeds.is feed-Feeds.deaf feed-Feeds.listed_limit feed-Feeds.new_given feed-Feeds.badge feed-Feeds.phase_of
+unfolding feed_Feeds.is feed_Feeds.deaf feed_Feeds.listed_limit feed_Feeds.new_given feed_Feeds.badge feed_Feeds.phase_of
 feed_feeds = 0
 
 unfoldable feed_frames : ℕ
-unfolding feed-Frames.onward feed-Frames.through
+unfolding feed_Frames.onward feed_Frames.through
 feed_frames = 0
 
 unfoldable feed_messages : ℕ
-unfolding feed-Messages.datum_of feed-Messages.kind_of feed-Messages.on_market feed-Messages.market feed-Messages.tabled feed-Messages.sized feed-Messages.wrong_size feed-Messages.status_of feed-Messages.listed_status feed-Messages.listed
+unfolding feed_Messages.datum_of feed_Messages.kind_of feed_Messages.on_market feed_Messages.market feed_Messages.tabled feed_Messages.sized feed_Messages.wrong_size feed_Messages.status_of feed_Messages.listed_status feed_Messages.listed
 feed_messages = 0
 
 unfoldable feed_program : ℕ
-unfolding feed-Program.follow feed-Program.side_lines feed-Program.lines
+unfolding feed_Program.follow feed_Program.side_lines feed_Program.lines
 feed_program = 0
 
 unfoldable feed_reasons : ℕ
-unfolding feed-Reasons.why feed-Reasons.badge_by
+unfolding feed_Reasons.why feed_Reasons.badge_by
 feed_reasons = 0
 
 unfoldable feed_steps : ℕ
-unfolding feed-Steps.logged_on feed-Steps.clears_on feed-Steps.clears feed-Steps.tables_after feed-Steps.does feed-Steps.counted feed-Steps.taken feed-Steps.act feed-Steps.used_of feed-Steps.drops feed-Steps.news_drops feed-Steps.dropped_on feed-Steps.handed feed-Steps.outcome
+unfolding feed_Steps.logged_on feed_Steps.clears_on feed_Steps.clears feed_Steps.tables_after feed_Steps.does feed_Steps.counted feed_Steps.taken feed_Steps.act feed_Steps.used_of feed_Steps.drops feed_Steps.news_drops feed_Steps.dropped_on feed_Steps.handed feed_Steps.outcome
 feed_steps = 0
 
 unfoldable lines_looks : ℕ
-unfolding lines-Looks.is_sized lines-Looks.exceeds lines-Looks.finished lines-Looks.look
+unfolding lines_Looks.is_sized lines_Looks.exceeds lines_Looks.finished lines_Looks.look
 lines_looks = 0
 
 unfoldable lines_scraps : ℕ
-unfolding lines-Scraps.gathered lines-Scraps.settled lines-Scraps.looked lines-Scraps.once lines-Scraps.onward lines-Scraps.goes_on lines-Scraps.through lines-Scraps.links
+unfolding lines_Scraps.gathered lines_Scraps.settled lines_Scraps.looked lines_Scraps.once lines_Scraps.onward lines_Scraps.goes_on lines_Scraps.through lines_Scraps.links
 lines_scraps = 0
 
 unfoldable password_rule : ℕ
-unfolding password-Rule.is_of password-Rule.lacks password-Rule.total password-Rule.bad_history password-Rule.lasts password-Rule.items password-Rule.verdict_of password-Rule.plain_verdict
+unfolding password_Rule.is_of password_Rule.lacks password_Rule.total password_Rule.bad_history password_Rule.lasts password_Rule.items password_Rule.verdict_of password_Rule.plain_verdict
 password_rule = 0
 
 unfoldable promises_answering : ℕ
-unfolding promises-Answering.one_call promises-Answering.fed promises-Answering.lost promises-Answering.spoilt promises-Answering.heard promises-Answering.held promises-Answering.broken promises-Answering.taken promises-Answering.fits promises-Answering.misfits promises-Answering.unlisted promises-Answering.both promises-Answering.opens promises-Answering.new_feeds promises-Answering.connects promises-Answering.answers promises-Answering.cuts promises-Answering.order
+unfolding promises_Answering.one_call promises_Answering.fed promises_Answering.lost promises_Answering.spoilt promises_Answering.heard promises_Answering.held promises_Answering.broken promises_Answering.taken promises_Answering.fits promises_Answering.misfits promises_Answering.unlisted promises_Answering.both promises_Answering.opens promises_Answering.new_feeds promises_Answering.connects promises_Answering.answers promises_Answering.cuts promises_Answering.order
 promises_answering = 0
 
 unfoldable promises_build : ℕ
-unfolding promises-Build.bytes promises-Build.joined promises-Build.header promises-Build.unit promises-Build.heartbeat promises-Build.message promises-Build.send_key promises-Build.logon promises-Build.logout promises-Build.refresh promises-Build.complete promises-Build.entry promises-Build.book_message promises-Build.fill promises-Build.row promises-Build.block promises-Build.feed promises-Build.both promises-Build.state promises-Build.start promises-Build.arrives promises-Build.gets promises-Build.dropping promises-Build.ends_both promises-Build.ends promises-Build.case promises-Build.logs_on
+unfolding promises_Build.bytes promises_Build.joined promises_Build.header promises_Build.unit promises_Build.heartbeat promises_Build.message promises_Build.send_key promises_Build.logon promises_Build.logout promises_Build.refresh promises_Build.complete promises_Build.entry promises_Build.book_message promises_Build.fill promises_Build.row promises_Build.block promises_Build.feed promises_Build.both promises_Build.state promises_Build.start promises_Build.arrives promises_Build.gets promises_Build.dropping promises_Build.ends_both promises_Build.ends promises_Build.case promises_Build.logs_on
 promises_build = 0
 
 unfoldable promises_checks : ℕ
-unfolding promises-Checks.wrong promises-Checks.same_feed promises-Checks.same_given promises-Checks.same_badges promises-Checks.same_end promises-Checks.runs promises-Checks.same_number promises-Checks.reads promises-Checks.same_levels promises-Checks.reads_side
+unfolding promises_Checks.wrong promises_Checks.same_feed promises_Checks.same_given promises_Checks.same_badges promises_Checks.same_end promises_Checks.runs promises_Checks.same_number promises_Checks.reads promises_Checks.same_levels promises_Checks.reads_side
 promises_checks = 0
 
 unfoldable promises_decisions : ℕ
-unfolding promises-Decisions.fits_deed promises-Decisions.fitting
+unfolding promises_Decisions.fits_deed promises_Decisions.fitting
 promises_decisions = 0
 
 unfoldable promises_demands : ℕ
-unfolding promises-Demands.hands_bytes promises-Demands.connects promises-Demands.lets_in promises-Demands.is_logon promises-Demands.logs_on
+unfolding promises_Demands.hands_bytes promises_Demands.connects promises_Demands.lets_in promises_Demands.is_logon promises_Demands.logs_on
 promises_demands = 0
 
 unfoldable promises_desk : ℕ
-unfolding promises-Desk.example1 promises-Desk.words1 promises-Desk.ten_entries promises-Desk.ten_rows promises-Desk.alone promises-Desk.next promises-Desk.live promises-Desk.spoilt promises-Desk.desk
+unfolding promises_Desk.example1 promises_Desk.words1 promises_Desk.ten_entries promises_Desk.ten_rows promises_Desk.alone promises_Desk.next promises_Desk.live promises_Desk.spoilt promises_Desk.desk
 promises_desk = 0
 
 unfoldable promises_dropped : ℕ
-unfolding promises-Dropped.side_for promises-Dropped.meets_ten promises-Dropped.tens_met promises-Dropped.tens_of promises-Dropped.tens_brought promises-Dropped.dropped_by_all
+unfolding promises_Dropped.side_for promises_Dropped.meets_ten promises_Dropped.tens_met promises_Dropped.tens_of promises_Dropped.tens_brought promises_Dropped.dropped_by_all
 promises_dropped = 0
 
 unfoldable promises_emptied : ℕ
-unfolding promises-Emptied.emptying promises-Emptied.full promises-Emptied.empty promises-Emptied.garbage promises-Emptied.leaves promises-Emptied.unsound promises-Emptied.unlisted promises-Emptied.emptied promises-Emptied.without promises-Emptied.live promises-Emptied.live_without promises-Emptied.refreshing promises-Emptied.refreshing_without promises-Emptied.around promises-Emptied.days
+unfolding promises_Emptied.emptying promises_Emptied.full promises_Emptied.empty promises_Emptied.garbage promises_Emptied.leaves promises_Emptied.unsound promises_Emptied.unlisted promises_Emptied.emptied promises_Emptied.without promises_Emptied.live promises_Emptied.live_without promises_Emptied.refreshing promises_Emptied.refreshing_without promises_Emptied.around promises_Emptied.days
 promises_emptied = 0
 
 unfoldable promises_entries : ℕ
-unfolding promises-Entries.drops promises-Entries.makes promises-Entries.not promises-Entries.bids promises-Entries.offers promises-Entries.news promises-Entries.changes promises-Entries.deletes promises-Entries.walks
+unfolding promises_Entries.drops promises_Entries.makes promises_Entries.not promises_Entries.bids promises_Entries.offers promises_Entries.news promises_Entries.changes promises_Entries.deletes promises_Entries.walks
 promises_entries = 0
 
 unfoldable promises_fallen : ℕ
-unfolding promises-Fallen.bids promises-Fallen.offers promises-Fallen.row_out promises-Fallen.falls promises-Fallen.entries promises-Fallen.tells promises-Fallen.three promises-Fallen.messages promises-Fallen.too_far promises-Fallen.full promises-Fallen.others promises-Fallen.first promises-Fallen.second promises-Fallen.last promises-Fallen.after_one promises-Fallen.after_two promises-Fallen.frame promises-Fallen.live promises-Fallen.sums promises-Fallen.numbers promises-Fallen.scraps promises-Fallen.pieces
+unfolding promises_Fallen.bids promises_Fallen.offers promises_Fallen.row_out promises_Fallen.falls promises_Fallen.entries promises_Fallen.tells promises_Fallen.three promises_Fallen.messages promises_Fallen.too_far promises_Fallen.full promises_Fallen.others promises_Fallen.first promises_Fallen.second promises_Fallen.last promises_Fallen.after_one promises_Fallen.after_two promises_Fallen.frame promises_Fallen.live promises_Fallen.sums promises_Fallen.numbers promises_Fallen.scraps promises_Fallen.pieces
 promises_fallen = 0
 
 unfoldable promises_frames : ℕ
-unfolding promises-Frames.singles promises-Frames.answers_in promises-Frames.accepted_in promises-Frames.used_in promises-Frames.dropped_in promises-Frames.after_act promises-Frames.run_acts promises-Frames.events_of promises-Frames.written promises-Frames.acts_bytes
+unfolding promises_Frames.singles promises_Frames.answers_in promises_Frames.accepted_in promises_Frames.used_in promises_Frames.dropped_in promises_Frames.after_act promises_Frames.run_acts promises_Frames.events_of promises_Frames.written promises_Frames.acts_bytes
 promises_frames = 0
 
 unfoldable promises_goodmorning : ℕ
-unfolding promises-GoodMorning.on promises-GoodMorning.due promises-GoodMorning.again promises-GoodMorning.fits promises-GoodMorning.good promises-GoodMorning.fair_news promises-GoodMorning.fair promises-GoodMorning.after_logon promises-GoodMorning.told promises-GoodMorning.says promises-GoodMorning.said_news promises-GoodMorning.talk promises-GoodMorning.fairly
+unfolding promises_GoodMorning.on promises_GoodMorning.due promises_GoodMorning.again promises_GoodMorning.fits promises_GoodMorning.good promises_GoodMorning.fair_news promises_GoodMorning.fair promises_GoodMorning.after_logon promises_GoodMorning.told promises_GoodMorning.says promises_GoodMorning.said_news promises_GoodMorning.talk promises_GoodMorning.fairly
 promises_goodmorning = 0
 
 unfoldable promises_leaves : ℕ
-unfolding promises-Leaves.wipes promises-Leaves.clearing promises-Leaves.writing
+unfolding promises_Leaves.wipes promises_Leaves.clearing promises_Leaves.writing
 promises_leaves = 0
 
 unfoldable promises_ledger : ℕ
-unfolding promises-Ledger.enter_status promises-Ledger.enter_taken promises-Ledger.enter_accepted promises-Ledger.enter_came promises-Ledger.enter promises-Ledger.keep promises-Ledger.up_to promises-Ledger.rising promises-Ledger.last_of
+unfolding promises_Ledger.enter_status promises_Ledger.enter_taken promises_Ledger.enter_accepted promises_Ledger.enter_came promises_Ledger.enter promises_Ledger.keep promises_Ledger.up_to promises_Ledger.rising promises_Ledger.last_of
 promises_ledger = 0
 
 unfoldable promises_mornings : ℕ
-unfolding promises-Mornings.two_bids promises-Mornings.better promises-Mornings.tenth promises-Mornings.logs_on promises-Mornings.day promises-Mornings.refilled promises-Mornings.empties promises-Mornings.strips promises-Mornings.two_strips promises-Mornings.one_slot promises-Mornings.words_of_one promises-Mornings.words_of_two promises-Mornings.allows promises-Mornings.forbids promises-Mornings.talks promises-Mornings.keeps promises-Mornings.resumed promises-Mornings.ledgers promises-Mornings.same_times promises-Mornings.of_strip promises-Mornings.strips_are promises-Mornings.recounts promises-Mornings.green_from promises-Mornings.dark promises-Mornings.three_bids promises-Mornings.one_bid promises-Mornings.free_slot promises-Mornings.logon_then promises-Mornings.connects_again promises-Mornings.of_code promises-Mornings.two_codes promises-Mornings.one_emptied promises-Mornings.tales promises-Mornings.striped promises-Mornings.endings
+unfolding promises_Mornings.two_bids promises_Mornings.better promises_Mornings.tenth promises_Mornings.logs_on promises_Mornings.day promises_Mornings.refilled promises_Mornings.empties promises_Mornings.strips promises_Mornings.two_strips promises_Mornings.one_slot promises_Mornings.words_of_one promises_Mornings.words_of_two promises_Mornings.allows promises_Mornings.forbids promises_Mornings.talks promises_Mornings.keeps promises_Mornings.resumed promises_Mornings.ledgers promises_Mornings.same_times promises_Mornings.of_strip promises_Mornings.strips_are promises_Mornings.recounts promises_Mornings.green_from promises_Mornings.dark promises_Mornings.three_bids promises_Mornings.one_bid promises_Mornings.free_slot promises_Mornings.logon_then promises_Mornings.connects_again promises_Mornings.of_code promises_Mornings.two_codes promises_Mornings.one_emptied promises_Mornings.tales promises_Mornings.striped promises_Mornings.endings
 promises_mornings = 0
 
 unfoldable promises_passwords : ℕ
-unfolding promises-Passwords.under_lent promises-Passwords.under promises-Passwords.made promises-Passwords.sixteen promises-Passwords.eight promises-Passwords.items promises-Passwords.passing promises-Passwords.range promises-Passwords.make_up promises-Passwords.classes promises-Passwords.borders promises-Passwords.others promises-Passwords.histories promises-Passwords.named promises-Passwords.editions
+unfolding promises_Passwords.under_lent promises_Passwords.under promises_Passwords.made promises_Passwords.sixteen promises_Passwords.eight promises_Passwords.items promises_Passwords.passing promises_Passwords.range promises_Passwords.make_up promises_Passwords.classes promises_Passwords.borders promises_Passwords.others promises_Passwords.histories promises_Passwords.named promises_Passwords.editions
 promises_passwords = 0
 
 unfoldable promises_phases : ℕ
-unfolding promises-Phases.units promises-Phases.left promises-Phases.barred promises-Phases.met promises-Phases.beats promises-Phases.paired promises-Phases.in_idle promises-Phases.in_wait_key promises-Phases.in_wait_logon promises-Phases.in_refreshing promises-Phases.in_live promises-Phases.in_lost promises-Phases.in_closed promises-Phases.whole
+unfolding promises_Phases.units promises_Phases.left promises_Phases.barred promises_Phases.met promises_Phases.beats promises_Phases.paired promises_Phases.in_idle promises_Phases.in_wait_key promises_Phases.in_wait_logon promises_Phases.in_refreshing promises_Phases.in_live promises_Phases.in_lost promises_Phases.in_closed promises_Phases.whole
 promises_phases = 0
 
 unfoldable promises_pieces : ℕ
-unfolding promises-Pieces.calls promises-Pieces.calls_in promises-Pieces.stream promises-Pieces.times
+unfolding promises_Pieces.calls promises_Pieces.calls_in promises_Pieces.stream promises_Pieces.times
 promises_pieces = 0
 
 unfoldable promises_refusals : ℕ
-unfolding promises-Refusals.answers_to promises-Refusals.feed_refused
+unfolding promises_Refusals.answers_to promises_Refusals.feed_refused
 promises_refusals = 0
 
 unfoldable promises_repaints : ℕ
-unfolding promises-Repaints.tells promises-Repaints.frame promises-Repaints.nothing promises-Repaints.five promises-Repaints.mixed promises-Repaints.live promises-Repaints.one_in promises-Repaints.listed promises-Repaints.all_in promises-Repaints.numbers promises-Repaints.none promises-Repaints.second promises-Repaints.lost_at promises-Repaints.refusals promises-Repaints.session promises-Repaints.phases promises-Repaints.splits promises-Repaints.halves promises-Repaints.same_events promises-Repaints.writes promises-Repaints.scripts promises-Repaints.opening promises-Repaints.after promises-Repaints.mornings
+unfolding promises_Repaints.tells promises_Repaints.frame promises_Repaints.nothing promises_Repaints.five promises_Repaints.mixed promises_Repaints.live promises_Repaints.one_in promises_Repaints.listed promises_Repaints.all_in promises_Repaints.numbers promises_Repaints.none promises_Repaints.second promises_Repaints.lost_at promises_Repaints.refusals promises_Repaints.session promises_Repaints.phases promises_Repaints.splits promises_Repaints.halves promises_Repaints.same_events promises_Repaints.writes promises_Repaints.scripts promises_Repaints.opening promises_Repaints.after promises_Repaints.mornings
 promises_repaints = 0
 
 unfoldable promises_runs : ℕ
-unfolding promises-Runs.after promises-Runs.run promises-Runs.trace promises-Runs.note_status promises-Runs.note_taken promises-Runs.note_news promises-Runs.note promises-Runs.recall promises-Runs.green promises-Runs.perform promises-Runs.replay promises-Runs.perform_on promises-Runs.replay_on promises-Runs.perform_strip promises-Runs.replay_strip
+unfolding promises_Runs.after promises_Runs.run promises_Runs.trace promises_Runs.note_status promises_Runs.note_taken promises_Runs.note_news promises_Runs.note promises_Runs.recall promises_Runs.green promises_Runs.perform promises_Runs.replay promises_Runs.perform_on promises_Runs.replay_on promises_Runs.perform_strip promises_Runs.replay_strip
 promises_runs = 0
 
 unfoldable promises_scraps : ℕ
-unfolding promises-Scraps.due_events promises-Scraps.turn_events promises-Scraps.units promises-Scraps.bytes_in promises-Scraps.scraps promises-Scraps.one_piece promises-Scraps.is_overrun promises-Scraps.after_line promises-Scraps.run_line promises-Scraps.line_events promises-Scraps.written_line promises-Scraps.line_bytes promises-Scraps.refused_since
+unfolding promises_Scraps.due_events promises_Scraps.turn_events promises_Scraps.units promises_Scraps.bytes_in promises_Scraps.scraps promises_Scraps.one_piece promises_Scraps.is_overrun promises_Scraps.after_line promises_Scraps.run_line promises_Scraps.line_events promises_Scraps.written_line promises_Scraps.line_bytes promises_Scraps.refused_since
 promises_scraps = 0
 
 unfoldable promises_section6 : ℕ
-unfolding promises-Section6.turns promises-Section6.bids_from9730 promises-Section6.offers_before promises-Section6.offers_after1 promises-Section6.offers_after5 promises-Section6.bids_before promises-Section6.bids_after3 promises-Section6.bids_after4 promises-Section6.eight_bids promises-Section6.six_bids promises-Section6.section6
+unfolding promises_Section6.turns promises_Section6.bids_from9730 promises_Section6.offers_before promises_Section6.offers_after1 promises_Section6.offers_after5 promises_Section6.bids_before promises_Section6.bids_after3 promises_Section6.bids_after4 promises_Section6.eight_bids promises_Section6.six_bids promises_Section6.section6
 promises_section6 = 0
 
 unfoldable promises_sizes : ℕ
-unfolding promises-Sizes.torn promises-Sizes.quiet promises-Sizes.with_length promises-Sizes.headed promises-Sizes.more promises-Sizes.heartbeats promises-Sizes.tiny promises-Sizes.wrongly promises-Sizes.sizes promises-Sizes.passes promises-Sizes.types promises-Sizes.sequence
+unfolding promises_Sizes.torn promises_Sizes.quiet promises_Sizes.with_length promises_Sizes.headed promises_Sizes.more promises_Sizes.heartbeats promises_Sizes.tiny promises_Sizes.wrongly promises_Sizes.sizes promises_Sizes.passes promises_Sizes.types promises_Sizes.sequence
 promises_sizes = 0
 
 unfoldable promises_statuses : ℕ
-unfolding promises-Statuses.freshly promises-Statuses.resumed promises-Statuses.wiped promises-Statuses.logons promises-Statuses.others promises-Statuses.answers_below promises-Statuses.listed_below promises-Statuses.all256 promises-Statuses.all_statuses
+unfolding promises_Statuses.freshly promises_Statuses.resumed promises_Statuses.wiped promises_Statuses.logons promises_Statuses.others promises_Statuses.answers_below promises_Statuses.listed_below promises_Statuses.all256 promises_Statuses.all_statuses
 promises_statuses = 0
 
 unfoldable promises_strips : ℕ
-unfolding promises-Strips.nominal promises-Strips.iep promises-Strips.reference promises-Strips.imbalance promises-Strips.closing promises-Strips.word promises-Strips.strip promises-Strips.free promises-Strips.whole promises-Strips.other_strip promises-Strips.on_both promises-Strips.makes promises-Strips.refuses promises-Strips.firsts promises-Strips.extremes promises-Strips.seconds promises-Strips.unlisted promises-Strips.unsound promises-Strips.uncome promises-Strips.sounds promises-Strips.slots promises-Strips.counts promises-Strips.wrongly promises-Strips.sizes promises-Strips.around promises-Strips.apart promises-Strips.crossed promises-Strips.clears promises-Strips.days promises-Strips.same_strip promises-Strips.reads promises-Strips.shows promises-Strips.reading
+unfolding promises_Strips.nominal promises_Strips.iep promises_Strips.reference promises_Strips.imbalance promises_Strips.closing promises_Strips.word promises_Strips.strip promises_Strips.free promises_Strips.whole promises_Strips.other_strip promises_Strips.on_both promises_Strips.makes promises_Strips.refuses promises_Strips.firsts promises_Strips.extremes promises_Strips.seconds promises_Strips.unlisted promises_Strips.unsound promises_Strips.uncome promises_Strips.sounds promises_Strips.slots promises_Strips.counts promises_Strips.wrongly promises_Strips.sizes promises_Strips.around promises_Strips.apart promises_Strips.crossed promises_Strips.clears promises_Strips.days promises_Strips.same_strip promises_Strips.reads promises_Strips.shows promises_Strips.reading
 promises_strips = 0
 
 unfoldable promises_tables : ℕ
-unfolding promises-Tables.on promises-Tables.refused promises-Tables.first_bid promises-Tables.opened promises-Tables.wipes promises-Tables.other promises-Tables.lengths promises-Tables.slots promises-Tables.three promises-Tables.ten_offers promises-Tables.sounds promises-Tables.row_is promises-Tables.no_row promises-Tables.level promises-Tables.ten_bids promises-Tables.ten_levels promises-Tables.side_is promises-Tables.rows
+unfolding promises_Tables.on promises_Tables.refused promises_Tables.first_bid promises_Tables.opened promises_Tables.wipes promises_Tables.other promises_Tables.lengths promises_Tables.slots promises_Tables.three promises_Tables.ten_offers promises_Tables.sounds promises_Tables.row_is promises_Tables.no_row promises_Tables.level promises_Tables.ten_bids promises_Tables.ten_levels promises_Tables.side_is promises_Tables.rows
 promises_tables = 0
 
 unfoldable promises_torn : ℕ
-unfolding promises-Torn.climbing promises-Torn.own promises-Torn.room promises-Torn.line promises-Torn.torn promises-Torn.shut promises-Torn.same_line promises-Torn.tells promises-Torn.quiet_after promises-Torn.quiet promises-Torn.says promises-Torn.booked promises-Torn.with_strips promises-Torn.on promises-Torn.scrap promises-Torn.hand promises-Torn.follows promises-Torn.after promises-Torn.book promises-Torn.passed promises-Torn.priced promises-Torn.beaten promises-Torn.lays promises-Torn.waits promises-Torn.byte_by_byte promises-Torn.singly promises-Torn.torn_units promises-Torn.mixed promises-Torn.places promises-Torn.numbers promises-Torn.sized promises-Torn.lengths promises-Torn.over promises-Torn.limits promises-Torn.stays promises-Torn.order promises-Torn.silent promises-Torn.finishes promises-Torn.late promises-Torn.refuses_on promises-Torn.refuses promises-Torn.refusals promises-Torn.connect promises-Torn.reconnects promises-Torn.opening promises-Torn.opened promises-Torn.ran promises-Torn.early promises-Torn.too_long promises-Torn.gap promises-Torn.again promises-Torn.beat promises-Torn.mornings promises-Torn.dark promises-Torn.spelt promises-Torn.same_said promises-Torn.cut promises-Torn.scraps_of promises-Torn.good_morning promises-Torn.logged_on promises-Torn.all_good promises-Torn.cuttings promises-Torn.ends_at promises-Torn.left_out promises-Torn.no_size promises-Torn.too_early promises-Torn.logged_out promises-Torn.closed promises-Torn.broken
+unfolding promises_Torn.climbing promises_Torn.own promises_Torn.room promises_Torn.line promises_Torn.torn promises_Torn.shut promises_Torn.same_line promises_Torn.tells promises_Torn.quiet_after promises_Torn.quiet promises_Torn.says promises_Torn.booked promises_Torn.with_strips promises_Torn.on promises_Torn.scrap promises_Torn.hand promises_Torn.follows promises_Torn.after promises_Torn.book promises_Torn.passed promises_Torn.priced promises_Torn.beaten promises_Torn.lays promises_Torn.waits promises_Torn.byte_by_byte promises_Torn.singly promises_Torn.torn_units promises_Torn.mixed promises_Torn.places promises_Torn.numbers promises_Torn.sized promises_Torn.lengths promises_Torn.over promises_Torn.limits promises_Torn.stays promises_Torn.order promises_Torn.silent promises_Torn.finishes promises_Torn.late promises_Torn.refuses_on promises_Torn.refuses promises_Torn.refusals promises_Torn.connect promises_Torn.reconnects promises_Torn.opening promises_Torn.opened promises_Torn.ran promises_Torn.early promises_Torn.too_long promises_Torn.gap promises_Torn.again promises_Torn.beat promises_Torn.mornings promises_Torn.dark promises_Torn.spelt promises_Torn.same_said promises_Torn.cut promises_Torn.scraps_of promises_Torn.good_morning promises_Torn.logged_on promises_Torn.all_good promises_Torn.cuttings promises_Torn.ends_at promises_Torn.left_out promises_Torn.no_size promises_Torn.too_early promises_Torn.logged_out promises_Torn.closed promises_Torn.broken
 promises_torn = 0
 
 unfoldable promises_traps : ℕ
-unfolding promises-Traps.traps promises-Traps.mornings promises-Traps.same_lines promises-Traps.prints promises-Traps.example10 promises-Traps.line10 promises-Traps.programs promises-Traps.programs2 promises-Traps.long_key promises-Traps.rooms promises-Traps.asked promises-Traps.badges
+unfolding promises_Traps.traps promises_Traps.mornings promises_Traps.same_lines promises_Traps.prints promises_Traps.example10 promises_Traps.line10 promises_Traps.programs promises_Traps.programs2 promises_Traps.long_key promises_Traps.rooms promises_Traps.asked promises_Traps.badges
 promises_traps = 0
 
 unfoldable promises_widths : ℕ
-unfolding promises-Widths.widths
+unfolding promises_Widths.widths
 promises_widths = 0
 
 unfoldable pub computes : ℕ
