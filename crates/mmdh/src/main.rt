@@ -138,13 +138,7 @@ fn more(r: Run, input: Stdin, buf: &mut [u8]) -> Run
 }
 
 // One turn: a call, and more bytes where it is answered More.
-fn turn(
-    r: Run,
-    input: Stdin,
-    table: &mut [u64],
-    strips: &mut [u64],
-    buf: &mut [u8],
-) -> Run
+fn turn(r: Run, input: Stdin, table: &mut [u64], strips: &mut [u64], buf: &mut [u8]) -> Run
     requires { Within r buf.old × (r.units < 18446744073709551615) }
     ensures { Turned 1 r result buf.old (lent table.old strips.old) buf.new (lent table.new strips.new) }
 {
@@ -156,13 +150,7 @@ fn turn(
 }
 
 // Turns until the run is over, or until there were more of them than any input can ask for.
-fn follow(
-    start: Run,
-    input: Stdin,
-    table: &mut [u64],
-    strips: &mut [u64],
-    buf: &mut [u8],
-) -> Run
+fn follow(start: Run, input: Stdin, table: &mut [u64], strips: &mut [u64], buf: &mut [u8]) -> Run
     requires { Within start buf.old × (start.units ≡ 0) × (start.over ≡ false) }
     ensures { Turned 9223372036854775808 start result buf.old (lent table.old strips.old) buf.new (lent table.new strips.new) }
 {
@@ -401,13 +389,7 @@ fn main(rt: HostRuntime) {
     let mut strips = [0u64; STRIPS_WORDS];
     let mut buf = [0u8; BUFFER_BYTES];
     let mut out = [0u8; TEXT_BYTES];
-    let n = program(
-        rt.stdin(),
-        &mut table,
-        &mut strips,
-        &mut buf,
-        &mut out,
-    );
+    let n = program(rt.stdin(), &mut table, &mut strips, &mut buf, &mut out);
     let written = rt.stdout().write_all(&out[..n]);
     if written.is_err() {
         let _ = rt

@@ -321,12 +321,7 @@ pub fn mmdh_arrive_cut(
 }
 
 // A line's connect, with its holding buffer: fresh where `resuming` is 0, else resuming. Where it is refused the line comes back as it was handed in.
-pub fn mmdh_line_connect(
-    line: MmdhLine,
-    hold: &[u8],
-    resuming: u64,
-    time: u64,
-) -> MmdhLinked
+pub fn mmdh_line_connect(line: MmdhLine, hold: &[u8], resuming: u64, time: u64) -> MmdhLinked
     ensures { LinkSays line hold.now resuming time result }
 {
     let linked = line_of(line).connect(hold, link_of(resuming), time);
@@ -424,12 +419,7 @@ pub fn mmdh_read_strip(strips: &[u64], code: u64) -> MmdhStrip
 
 // A new password under an edition (111 or 136), with the last passwords: their lengths, and their bytes one after the other. 0 passes, 23 no history,
 // 15 another edition, else the first item that fails: 1 length, 2 upper, 3 lower, 4 digit, 5 special, 6 history.
-pub fn mmdh_password(
-    edition: u64,
-    password: &[u8],
-    lengths: &[u64],
-    history: &[u8],
-) -> u64
+pub fn mmdh_password(edition: u64, password: &[u8], lengths: &[u64], history: &[u8]) -> u64
     ensures { PasswordSays edition password.now lengths.now history.now result }
 {
     password::asked(edition, password, lengths, history)

@@ -4,7 +4,9 @@
 ghost use Rattle.screen.specs.Promised.{NewSays, ConnectSays, ArriveSays, FrameSays, CutSays, LinkSays, ScrapSays, BadgeSays, WhySays, RowSays, SideSays, StripSays, PasswordSays, VersionSays};
 ghost use Rattle.feed.specs.Steps.{lent};
 
-use screen::{MmdhFeed, MmdhFrame, MmdhGiven, MmdhHeard, MmdhLine, MmdhLinked, MmdhRow, MmdhSide, MmdhStrip};
+use screen::{
+    MmdhFeed, MmdhFrame, MmdhGiven, MmdhHeard, MmdhLine, MmdhLinked, MmdhRow, MmdhSide, MmdhStrip,
+};
 
 // A new feed with a silence limit in milliseconds: 19 outside 1 to 600,000.
 #[unsafe(no_mangle)]
