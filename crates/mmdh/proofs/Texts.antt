@@ -121,7 +121,7 @@ module _ (n rest from : ℕ) (digits : List ℕ) (c : Digiting n rest from digit
       let e : from - 1 + 1 ≡ from = omega arith in
       drop-set digits (from - 1) (48 + rest % 10) (omega arith) ∙ rw e
 
-  pub digits_go : 0 < rest / 10 → Digiting n (rest / 10) (from - 1) newer
+  pub digits_go : (rest / 10 ≡ 0 → ⊥) → Digiting n (rest / 10) (from - 1) newer
   digits_go h =
       let some : 0 < from = c.some in
       let upto : from ≤ 20 = c.upto in
