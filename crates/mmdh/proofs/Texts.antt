@@ -7,9 +7,9 @@ use native.Mathlib.Numerals.{add-one}
 use native.Mathlib.Decide.{dec_le}
 use native.Mathlib.Nat.{add-zero, pow-suc}
 use native.Mathlib.Omega.{arith}
-use lib.ListN.{length, take, drop, set, get_or, length-set, length-drop, drop_of_length-le}
+use lib.ListN.{length, take, drop, set, get_or, length-set}
 use lib.Dec.{ltb}
-use lib.Seq.{take-suc, take-suc-set, take_all, length-take-le}
+use lib.Seq.{take-suc, take_all, length-take-le}
 use lib.IntN.{sub_ℕ}
 use Rattle.std.proofs.lemmas.List.{drop-set}
 use borrow.Author.Rules.{rules}
@@ -24,8 +24,8 @@ use Rattle.ladder.specs.Words.{row_of, rows_from, book_width, side_width, offers
 use Rattle.ladder.specs.declared.Row.{Row}
 use Rattle.ladder.proofs.Loads.{rows_ten, row_is}
 use Rattle.feed.specs.Program.{Line, side_lines, lines, table_words}
-use Rattle.mmdh.specs.Text.{digits_of, decimal, signed, letter, space, head_text, line_text, lines_text, end_text, text}
-use Rattle.mmdh.specs.Code.Rooms.{line_of, shown, Put, side_room, book_room, books_room, text_room, line_room, end_room, price_room, number_room, head_room, slots}
+use Rattle.mmdh.specs.Text.{digits_of, decimal, signed, letter, space, line_text, lines_text, end_text}
+use Rattle.mmdh.specs.Code.Rooms.{line_of, Put, side_room, book_room, books_room, line_room, end_room, price_room, number_room, slots}
 
 -- one text behind another
 behind : (s t x y z : List ℕ) (m n i j k : ℕ) → Put s m i x y j → Put t n j y z k → Put (s ++ t) (m + n) i x z k
@@ -40,39 +40,12 @@ same_text s t x y m n i k p e h = record { holds = p.holds ∙ ap (λ (l : List 
 nothing : (x : List ℕ) (i : ℕ) → i ≤ length x → Put [] 0 i x x i
 nothing x i h = record { holds = sym (append-nil (take i x)); few = omega arith; inside = h }
 
-pub one_put : (x : List ℕ) (at byte : ℕ) → at < length x → Put (byte ∷ []) 1 at x (set x at byte) (at + 1)
-one_put x at byte h = record { holds = rw (add-one, take-suc-set x at byte); few = omega arith; inside = simp length-set (omega arith) }
-
 -- i of the bytes are put
 pub record Copied (words old : List ℕ) (at i : ℕ) (new : List ℕ) : Type 0 where
   pub long : length new ≡ length old
   pub room : at + length words ≤ length old
   pub upto : i ≤ length words
   pub so_far : take (at + i) new ≡ take at old ++ take i words
-
-pub copy_starts : (words old : List ℕ) (at : ℕ) → at + length words ≤ length old → Copied words old at 0 old
-copy_starts words old at h = record { long = refl; room = h; upto = omega arith; so_far = simp (add-zero, append-nil) }
-
-pub copy_goes : (words old new : List ℕ) (at i : ℕ) → Copied words old at i new → i < length words → Copied words old at (i + 1) (set new (at + i) (get_or words i 0))
-copy_goes words old new at i c h =
-    let b : ℕ = get_or words i 0 in
-    let long : length new ≡ length old = c.long in
-    let room : at + length words ≤ length old = c.room in
-    let inside : at + i < length new = omega arith in
-    let e : at + (i + 1) ≡ suc (at + i) = omega arith in
-    record {
-      long = length-set new (at + i) b ∙ long;
-      room = room;
-      upto = omega arith;
-      so_far = rw (e, take-suc-set new (at + i) b, add-one, take-suc words i 0, c.so_far, append_assoc);
-    }
-
-pub copy_ends : (words old new : List ℕ) (at i : ℕ) → Copied words old at i new → length words ≤ i → Put words (length words) at old new (at + i)
-copy_ends words old new at i c h =
-    let long : length new ≡ length old = c.long in
-    let room : at + length words ≤ length old = c.room in
-    let upto : i ≤ length words = c.upto in
-    record { holds = c.so_far ∙ ap (λ (l : List ℕ). take at old ++ l) (take_all i words h); few = omega arith; inside = omega arith }
 
 -- any bound serves that is not below the number
 any_bound : (a b n : ℕ) → n ≤ a → n ≤ b → digits_of a n ≡ digits_of b n
@@ -104,10 +77,6 @@ pub record Digiting (n rest from : ℕ) (digits : List ℕ) : Type 0 where
   pub room : rest < 10 ^ from
   pub so_far : decimal rest ++ drop from digits ≡ decimal n
 
-pub digits_start : (n : ℕ) (digits : List ℕ) → n < 18446744073709551616 → length digits ≡ 20 → Digiting n n 20 digits
-digits_start n digits h e =
-    record { some = omega arith; upto = omega arith; long = e; room = omega arith; so_far = rw (drop_of_length-le digits {i = 20} (omega arith), append-nil) }
-
 -- a digit more is put
 module _ (n rest from : ℕ) (digits : List ℕ) (c : Digiting n rest from digits) where
   abbrev newer : List ℕ
@@ -135,10 +104,10 @@ module _ (n rest from : ℕ) (digits : List ℕ) (c : Digiting n rest from digit
         long = length-set digits (from - 1) (48 + rest % 10) ∙ c.long;
         room = left;
         so_far =
-          rw put_front
-          (sym (append_assoc (decimal (rest / 10)) ((48 + rest % 10) ∷ []) (drop from digits))
-          ∙ ap (λ (l : List ℕ). l ++ drop from digits) (sym (more_digits rest (omega arith)))
-          ∙ c.so_far);
+            rw put_front
+            (sym (append_assoc (decimal (rest / 10)) ((48 + rest % 10) ∷ []) (drop from digits))
+            ∙ ap (λ (l : List ℕ). l ++ drop from digits) (sym (more_digits rest (omega arith)))
+            ∙ c.so_far);
       }
     where
       go : Dec (from - 1 ≤ 0) → rest / 10 < 10 ^ (from - 1) → 0 < from - 1
@@ -151,32 +120,6 @@ module _ (n rest from : ℕ) (digits : List ℕ) (c : Digiting n rest from digit
 
   pub digits_end : rest / 10 ≡ 0 → drop (from - 1) newer ≡ decimal n
   digits_end h = put_front ∙ ap (λ (l : List ℕ). l ++ drop from digits) (sym (one_digit rest (omega arith))) ∙ c.so_far
-
--- twenty bytes hold a number's digits
-pub number_fits : (from : ℕ) (digits : List ℕ) → from ≤ 20 → length digits ≡ 20 → length (drop from digits) ≤ 20
-number_fits from digits h e = rw length-drop (omega arith)
-
-pub number_put : (n from after at j r : ℕ) (d x y z : List ℕ) → drop from d ≡ decimal n → length d ≡ 20 → Put (drop from d) (length (drop from d)) at x y j
-    → Put (after ∷ []) 1 j y z r → Put (decimal n ++ (after ∷ [])) number_room at x z r
-number_put n from after at j r d x y z e l p q =
-    same_text (drop from d ++ (after ∷ [])) (decimal n ++ (after ∷ [])) x z (length (drop from d) + 1) number_room at r (behind _ _ x y z _ 1 at j r p q)
-    (ap (λ (t : List ℕ). t ++ (after ∷ [])) e) (rw (length-drop from d, l) (omega arith))
-
-pub price_below : (word at j r : ℕ) (x y z : List ℕ) → word < 2147483648 → Put (45 ∷ []) 1 at x y j → Put (decimal (2147483648 - word) ++ (32 ∷ [])) number_room j y z r
-    → Put (signed (sub_ℕ word bias) ++ space) price_room at x z r
-price_below word at j r x y z h p q =
-    let e : bias - suc word + 1 ≡ 2147483648 - word = omega arith in
-    rw (lt-ltb word bias h, e) (behind (45 ∷ []) _ x y z 1 number_room at j r p q)
-
-pub price_above : (word at r : ℕ) (x z : List ℕ) → 2147483648 ≤ word → Put (decimal (word - 2147483648) ++ (32 ∷ [])) number_room at x z r
-    → Put (signed (sub_ℕ word bias) ++ space) price_room at x z r
-price_above word at r x z h p = rw (le-ltb word bias h) (same_text _ _ x z number_room price_room at r p refl (omega arith))
-
-pub letter_bids : (side : ℕ) → side ≡ 0 → 66 ≡ letter side
-letter_bids side e = rw (eq-eqb side 0 e)
-
-pub letter_offers : (side : ℕ) → (side ≡ 0 → ⊥) → 79 ≡ letter side
-letter_offers side e = rw (ne_eqb side 0 e)
 
 pub row_put : (code side rank l at a b c d e f r : ℕ) (row : Row) (o p q s t u v w : List ℕ) → l ≡ letter side
     → Put (decimal code ++ (32 ∷ [])) number_room at o p a
@@ -331,25 +274,10 @@ end_put answer units at a b c r o p q s t h₁ h₂ h₃ h₄ =
     let p₃ = behind _ _ o q s _ _ at b c p₂ h₃ in
     same_text _ _ o t end_room end_room at r (behind _ _ o s t _ _ at c r p₃ h₄) (simp append_assoc) (omega arith)
 
-pub all_put : (table : List ℕ) (answer units a b r : ℕ) (o p q s : List ℕ) → Put head_text head_room 0 o p a → Put (lines_text (lines (slots_in books table))) books_room a p q b
-    → Put (end_text answer units) end_room b q s r → Put (text (shown table answer units)) text_room 0 o s r
-all_put table answer units a b r o p q s h₁ h₂ h₃ = behind _ _ o q s _ _ 0 b r (behind _ _ o p q _ _ 0 a b h₁ h₂) h₃
-
 pub ruleset texts = (
   rules,
-  one_put,
-  copy_starts,
-  copy_goes,
-  copy_ends,
-  digits_start,
   digits_go,
   digits_end,
-  number_fits,
-  number_put,
-  price_below,
-  price_above,
-  letter_bids,
-  letter_offers,
   row_put,
   side_starts,
   side_goes,
@@ -360,5 +288,4 @@ pub ruleset texts = (
   books_go,
   books_end,
   end_put,
-  all_put,
 )
