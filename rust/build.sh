@@ -1,7 +1,7 @@
 #!/usr/bin/env bash
 # Builds the Rust side into target/rust with cargo, over target/staticlib/libscreen.a, and runs a part of it.
-# The archive is x86-64. On an Arm machine all of it is built for x86-64 and run under an emulator, but for bench: there
-# the library is compiled for Arm (rust/bench/arm.sh), since times under an emulator mean nothing.
+# The archive is x86-64, and so is the kit that makes it. On an Arm machine, with an archive from elsewhere, all of it is built for x86-64
+# and run under an emulator, but for bench, which is not to be had there: times under an emulator mean nothing.
 set -u
 cd "$(dirname "$0")/.." || exit 1
 root=$PWD
@@ -16,6 +16,7 @@ usage() {
     cat <<'END'
 usage: bash rust/build.sh PART
 
+  archive           proves the library and writes target/staticlib/libscreen.a (minutes if it is not proved yet)
   paint [..]        panels from a capture (--help)
   timeline [..]     every change of the badge in a capture with times (--help)
   script FILE       runs a script of calls (docs/SCRIPTS.md)
@@ -24,9 +25,8 @@ usage: bash rust/build.sh PART
                     128, 512 and 4,096 slots, strip messages at 128, book messages in frames of 32 against single calls; of
                     the library in scraps, whole messages and torn ones, against single calls; and a repaint by sides
                     against single reads. --short only looks whether all three end with the same tables and as many rows
-                    dropped, by single calls and by frames, the library in scraps too, and both repaints show the same. On
-                    Arm the library's own code is compiled for Arm, and no emulator runs; the library is proved first where
-                    it is not yet
+                    dropped, by single calls and by frames, the library in scraps too, and both repaints show the same. Not
+                    on Arm
   count [SLOTS..]   x86-64 instructions a message of the same three, under an emulator; about ten minutes. 'strips' for
                     strip messages alone
   env               the settings with which cargo builds for the archive, as lines for a shell
@@ -42,7 +42,7 @@ What the gate runs, each with 'N passed, M failed' as its last line:
   lint              rustfmt --check and clippy, warnings denied
   header            include/mmdh.h from a C program
 
-All but capture, env, and bench on Arm, need target/staticlib/libscreen.a: run 'rt staticlib screen' first.
+All but archive, capture and env need target/staticlib/libscreen.a: run 'bash rust/build.sh archive' first.
 END
 }
 
@@ -86,22 +86,6 @@ emulated() {
         "CARGO_TARGET_X86_64_UNKNOWN_LINUX_GNU_RUSTFLAGS=-C target-feature=+crt-static -C relocation-model=static -L native=$out/x86")
 }
 
-# Arm, for times: the machine's own tools, and the library's code compiled for Arm.
-timed() {
-    local tool
-    for tool in cargo rustc cc; do
-        if ! command -v $tool >/dev/null 2>&1; then
-            echo "installing cargo rustc gcc libc6-dev" >&2
-            { apt-get update && apt-get install -y cargo rustc gcc libc6-dev; } >"$out/apt.log" 2>&1 ||
-                fail "could not install cargo rustc gcc libc6-dev (see target/rust/apt.log)"
-        fi
-    done
-    bash rust/bench/arm.sh || fail "the library could not be compiled for Arm"
-    (cd rust && MMDH_ARCHIVE=$out/arm/libscreen.a CARGO_TARGET_DIR=$out/arm/cargo cargo build --offline --quiet --release -p bench) ||
-        fail "cargo could not build bench for Arm"
-    echo "the library's code compiled for Arm, the twins by $(rustc --version | cut -d' ' -f1,2)"
-}
-
 # cargo with its settings, for the archive's target and into our folder.
 with_cargo() {
     env ${settings[@]+"${settings[@]}"} CARGO_BUILD_TARGET="$target" CARGO_TARGET_DIR="$out" "$cargo" "$@"
@@ -114,8 +98,20 @@ programs() {
     (cd rust && with_cargo build --offline --quiet --release "${words[@]}") || fail "cargo could not build $*"
 }
 
+# Proves the library and puts its archive where all parts look for it. It has the C calls of the header, and nothing else that others can call.
+build_archive() {
+    local log=$root/target/staticlib.log
+    command -v rt >/dev/null 2>&1 || fail "the Rattle kit's command rt is not on this machine"
+    mkdir -p target/staticlib || fail "cannot make target/staticlib"
+    (cd crates/screen_c && rt lib) >"$log" 2>&1 </dev/null || { cat "$log"; fail "the library is not proved, so there is no archive"; }
+    cp crates/screen_c/out/libscreen_c.a "$archive.new" && mv "$archive.new" "$archive" || fail "cannot write $archive"
+    diff <(sed -n 's/^[A-Za-z].*\b\(mmdh_[a-z_]*\)(.*/\1/p' include/mmdh.h | sort) <(nm -g --defined-only "$archive" | awk 'NF == 3 { print $3 }' | sort) ||
+        fail "the archive has other calls than include/mmdh.h (behind > the archive's)"
+    echo "1 passed, 0 failed"
+}
+
 has_archive() {
-    [ -f "$archive" ] || fail "no $archive; run rt staticlib screen first"
+    [ -f "$archive" ] || fail "no $archive; run bash rust/build.sh archive first"
 }
 
 # How many tests the logs of cargo and rustdoc say passed.
@@ -200,19 +196,21 @@ lint() {
 part=${1:-}
 [ $# -gt 0 ] && shift
 case $part in
-    test | cover | scripts | timelines | panels | user | lint | header | bench | count | paint | timeline | script | capture | env) ;;
+    archive | test | cover | scripts | timelines | panels | user | lint | header | bench | count | paint | timeline | script | capture | env) ;;
     -h | --help | help) usage && exit ;;
     *) usage >&2 && exit 1 ;;
 esac
 mkdir -p "$out" || fail "cannot make $out"
 case $(uname -m)-$part in
+    *-archive) ;;
     x86_64-*) native ;;
-    aarch64-bench) timed ;;
+    aarch64-bench) fail "no benchmark on Arm: this kit compiles for x86-64 alone, and leaves nothing that could be compiled once more" ;;
     aarch64-*) emulated ;;
     *) fail "neither x86-64 nor Arm: $(uname -m)" ;;
 esac
 
 case $part in
+    archive) build_archive ;;
     test)
         has_archive
         programs tests bench capture
@@ -249,13 +247,9 @@ case $part in
         lint
         ;;
     bench)
-        if [ "$(uname -m)" = aarch64 ]; then
-            "$out/arm/cargo/release/bench" "$@"
-        else
-            has_archive
-            programs bench
-            "$bin/bench" "$@"
-        fi
+        has_archive
+        programs bench
+        "$bin/bench" "$@"
         ;;
     count)
         has_archive

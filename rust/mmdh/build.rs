@@ -6,8 +6,11 @@ use std::process::{exit, Command};
 
 /// A variable that names the archive.
 const NAMED: &str = "MMDH_ARCHIVE";
-/// Where `rt staticlib screen` writes it, from the repository's root.
+/// Where `bash rust/build.sh archive` writes it, from the repository's root.
 const BUILT: &str = "target/staticlib/libscreen.a";
+/// The crate that exports the C calls, and where `rt lib` leaves its archive in that folder.
+const EXPORTS: &str = "crates/screen_c";
+const LEFT: &str = "out/libscreen_c.a";
 const TARGET: &str = "x86_64-unknown-linux-gnu";
 
 fn fail(why: &str) -> ! {
@@ -21,7 +24,7 @@ fn root() -> PathBuf {
     here.ancestors().nth(2).map(Path::to_path_buf).unwrap_or(here)
 }
 
-/// The archive that `rt` writes is x86-64 code for Linux. One that is named may be of another kind, as the benchmark's is on Arm.
+/// The archive that `rt` writes is x86-64 code for Linux. One that is named may be of another kind.
 fn check_target() {
     if env::var_os(NAMED).is_some() {
         return;
@@ -53,16 +56,17 @@ fn archive() -> PathBuf {
     built
 }
 
-/// Has the archive proved and built, which takes some minutes.
+/// Has the archive proved and built, which takes some minutes, and puts it in its place.
 fn build(archive: &Path) {
-    let command = "rt staticlib screen";
+    let folder = root().join(EXPORTS);
+    let command = format!("rt lib' in '{}", folder.display());
     let wanted = format!("no archive: {} is not set and there is no {}", NAMED, archive.display());
-    match Command::new("rt").args(["staticlib", "screen"]).current_dir(root()).output() {
+    match Command::new("rt").arg("lib").current_dir(&folder).output() {
         Err(fault) => fail(&format!(
             "{}, and '{}', which would build it, cannot be run: the Rattle kit's command rt: {}",
             wanted, command, fault
         )),
-        Ok(ended) if !ended.status.success() || !archive.is_file() => fail(&format!(
+        Ok(ended) if !ended.status.success() || !folder.join(LEFT).is_file() => fail(&format!(
             "{}, and '{}' did not build it ({}):\n{}{}",
             wanted,
             command,
@@ -71,6 +75,10 @@ fn build(archive: &Path) {
             String::from_utf8_lossy(&ended.stderr)
         )),
         Ok(_) => {}
+    }
+    let kept = archive.parent().map_or(Ok(()), std::fs::create_dir_all);
+    if let Err(fault) = kept.and_then(|()| std::fs::copy(folder.join(LEFT), archive)) {
+        fail(&format!("the archive cannot be written to {}: {}", archive.display(), fault));
     }
 }
 

@@ -1,17 +1,19 @@
 -- What is put into a buffer, piece by piece, is the text. Assumes nothing.
 use Prim.Native.Nat.{ℕ, zero, suc, ◌+◌, ◌-◌, ◌*◌, ◌/◌, ◌%◌, ◌^◌, ◌≤◌, ◌<◌, min}
-use mathlib.Core.Path.{◌≡◌, refl, ap, sym, ◌∙◌}
+use mathlib.Core.Path.{◌≡◌, refl, ap, sym, subst, ◌∙◌}
+use mathlib.Core.Bool.{cond}
 use mathlib.Core.List.{List, [], ◌∷◌, ◌++◌, append_assoc, append-nil}
 use native.Mathlib.Numerals.{add-one}
 use native.Mathlib.Decide.{dec_le}
-use native.Mathlib.Nat.{add-zero}
+use native.Mathlib.Nat.{add-zero, pow-suc}
 use native.Mathlib.Omega.{arith}
-use lib.ListN.{length, take, drop, set, get_or, length-set, length-take}
-use lib.Seq.{take-suc, take-suc-set, take_all, length-take-le}
+use lib.ListN.{length, take, drop, set, get_or, length-set}
+use lib.Dec.{ltb}
+use lib.Seq.{take-suc, take_all, length-take-le}
 use lib.IntN.{sub_ℕ}
+use Rattle.std.proofs.lemmas.List.{drop-set}
 use borrow.Author.Rules.{rules}
 use borrow.Author.Tests.{lt-ltb, le-ltb, eq-eqb, ne_eqb}
-use Rattle.io.specs.Digits.{last_digits, IsDigitCount}
 use Rattle.wire.specs.Number.{bias}
 use Rattle.slots.specs.Slots.{code_of}
 use Rattle.slots.specs.Layout.{slots_in}
@@ -22,9 +24,8 @@ use Rattle.ladder.specs.Words.{row_of, rows_from, book_width, side_width, offers
 use Rattle.ladder.specs.declared.Row.{Row}
 use Rattle.ladder.proofs.Loads.{rows_ten, row_is}
 use Rattle.feed.specs.Program.{Line, side_lines, lines, table_words}
-use Rattle.mmdh.specs.Text.{digits_of, decimal, signed, letter, space, head_text, line_text, lines_text, end_text, text}
-use Rattle.mmdh.specs.Code.Rooms.{line_of, shown, Put, side_room, book_room, books_room, text_room, line_room, end_room, price_room, number_room, head_room, slots}
-use Rattle.mmdh.proofs.Laws.{few}
+use Rattle.mmdh.specs.Text.{digits_of, decimal, signed, letter, space, line_text, lines_text, end_text}
+use Rattle.mmdh.specs.Code.Rooms.{line_of, Put, side_room, book_room, books_room, line_room, end_room, price_room, number_room, slots}
 
 -- one text behind another
 behind : (s t x y z : List ℕ) (m n i j k : ℕ) → Put s m i x y j → Put t n j y z k → Put (s ++ t) (m + n) i x z k
@@ -39,9 +40,6 @@ same_text s t x y m n i k p e h = record { holds = p.holds ∙ ap (λ (l : List 
 nothing : (x : List ℕ) (i : ℕ) → i ≤ length x → Put [] 0 i x x i
 nothing x i h = record { holds = sym (append-nil (take i x)); few = omega arith; inside = h }
 
-pub one_put : (x : List ℕ) (at byte : ℕ) → at < length x → Put (byte ∷ []) 1 at x (set x at byte) (at + 1)
-one_put x at byte h = record { holds = rw (add-one, take-suc-set x at byte); few = omega arith; inside = simp length-set (omega arith) }
-
 -- i of the bytes are put
 pub record Copied (words old : List ℕ) (at i : ℕ) (new : List ℕ) : Type 0 where
   pub long : length new ≡ length old
@@ -49,86 +47,79 @@ pub record Copied (words old : List ℕ) (at i : ℕ) (new : List ℕ) : Type 0 
   pub upto : i ≤ length words
   pub so_far : take (at + i) new ≡ take at old ++ take i words
 
-pub copy_starts : (words old : List ℕ) (at : ℕ) → at + length words ≤ length old → Copied words old at 0 old
-copy_starts words old at h = record { long = refl; room = h; upto = omega arith; so_far = simp (add-zero, append-nil) }
-
-pub copy_goes : (words old new : List ℕ) (at i : ℕ) → Copied words old at i new → i < length words → Copied words old at (i + 1) (set new (at + i) (get_or words i 0))
-copy_goes words old new at i c h =
-    let b : ℕ = get_or words i 0 in
-    let long : length new ≡ length old = c.long in
-    let room : at + length words ≤ length old = c.room in
-    let inside : at + i < length new = omega arith in
-    let e : at + (i + 1) ≡ suc (at + i) = omega arith in
-    record {
-      long = length-set new (at + i) b ∙ long;
-      room = room;
-      upto = omega arith;
-      so_far = rw (e, take-suc-set new (at + i) b, add-one, take-suc words i 0, c.so_far, append_assoc);
-    }
-
-pub copy_ends : (words old new : List ℕ) (at i : ℕ) → Copied words old at i new → length words ≤ i → Put words (length words) at old new (at + i)
-copy_ends words old new at i c h =
-    let long : length new ≡ length old = c.long in
-    let room : at + length words ≤ length old = c.room in
-    let upto : i ≤ length words = c.upto in
-    record { holds = c.so_far ∙ ap (λ (l : List ℕ). take at old ++ l) (take_all i words h); few = omega arith; inside = omega arith }
-
--- the last digit of a number
-last_digit : (n : ℕ) → last_digits 10 1 n ≡ (48 + n % 10) ∷ []
-last_digit n = rw (lt-ltb (n % 10) 10 (omega arith))
-
--- a number of two digits or more is as large as its first
-tens : (k n : ℕ) → IsDigitCount 10 1 n (suc (suc k)) → 10 ^ suc k ≤ n
-tens k n f =
-    let e : suc (suc k) - 1 ≡ suc k = omega arith in
-    rw e at (f.2 (omega arith))
-
--- the fewest digits of a number are those of its text
-digits_are : (k more n : ℕ) → n ≤ more → IsDigitCount 10 1 n (suc k) → last_digits 10 (suc k) n ≡ digits_of more n
+-- any bound serves that is not below the number
+any_bound : (a b n : ℕ) → n ≤ a → n ≤ b → digits_of a n ≡ digits_of b n
 unfolding digits_of
-digits_are zero zero n h f = last_digit n
-digits_are zero (suc more) n h f = rw (lt-ltb n 10 (omega (arith, f.1))) (last_digit n)
-digits_are (suc k) zero n h f =
-    let none : ⊥ = omega (arith, tens k n f) in
-    absurd none
-digits_are (suc k) (suc more) n h f =
-    let large : 10 ^ suc k ≤ n = tens k n f in
-    let ten : 10 ≤ n = omega arith in
-    let e : suc k - 1 ≡ k = omega arith in
-    let g : IsDigitCount 10 1 (n / 10) (suc k) = (omega arith, omega (arith, f.1), λ l. rw e (omega arith)) in
-    rw (le-ltb n 10 ten, digits_are k more (n / 10) (omega arith) g, lt-ltb (n % 10) 10 (omega arith))
-
-decimal_is : (n k : ℕ) → IsDigitCount 10 1 n k → last_digits 10 k n ≡ decimal n
-decimal_is n zero f = absurd (none f.0)
+any_bound zero zero n h g = refl
+any_bound zero (suc b) n h g = rw (lt-ltb n 10 (omega arith))
+any_bound (suc a) zero n h g = rw (lt-ltb n 10 (omega arith))
+any_bound (suc a) (suc b) n h g = go (dec_le 10 n) (λ k. any_bound a b (n / 10) (omega arith) (omega arith))
   where
-    none : 1 ≤ 0 → ⊥
-    none h = omega arith
-decimal_is n (suc k) f = digits_are k n n (omega arith) f
+    go : Dec (10 ≤ n) → (10 ≤ n → digits_of a (n / 10) ≡ digits_of b (n / 10)) → digits_of (suc a) n ≡ digits_of (suc b) n
+    go (yes k) e = ap (λ (l : List ℕ). cond (ltb n 10) [] l ++ ((48 + n % 10) ∷ [])) (e k)
+    go (no k) e = rw (lt-ltb n 10 (omega arith))
 
-pub number_fits : (n k : ℕ) (d : List ℕ) → n < 18446744073709551616 → IsDigitCount 10 1 n k → length (take k d) ≤ 20
-number_fits n k d h f = rw length-take (omega (arith, few n k h f))
+one_digit : (n : ℕ) → n < 10 → decimal n ≡ (48 + n % 10) ∷ []
+unfolding digits_of
+one_digit n h = any_bound n (suc n) n (omega arith) (omega arith) ∙ rw (lt-ltb n 10 h)
 
-pub number_put : (n k after at j r : ℕ) (d x y z : List ℕ) → n < 18446744073709551616 → IsDigitCount 10 1 n k → take k d ≡ last_digits 10 k n
-    → Put (take k d) (length (take k d)) at x y j → Put (after ∷ []) 1 j y z r → Put (decimal n ++ (after ∷ [])) number_room at x z r
-number_put n k after at j r d x y z h f e p q =
-    same_text (take k d ++ (after ∷ [])) (decimal n ++ (after ∷ [])) x z (length (take k d) + 1) number_room at r (behind _ _ x y z _ 1 at j r p q)
-    (ap (λ (l : List ℕ). l ++ (after ∷ [])) (e ∙ decimal_is n k f)) (omega (arith, number_fits n k d h f))
+more_digits : (n : ℕ) → 10 ≤ n → decimal n ≡ decimal (n / 10) ++ ((48 + n % 10) ∷ [])
+unfolding digits_of
+more_digits n h =
+    any_bound n (suc n) n (omega arith) (omega arith)
+    ∙ rw (le-ltb n 10 h) (ap (λ (l : List ℕ). l ++ ((48 + n % 10) ∷ [])) (any_bound n (n / 10) (n / 10) (omega arith) (omega arith)))
 
-pub price_below : (word at j r : ℕ) (x y z : List ℕ) → word < 2147483648 → Put (45 ∷ []) 1 at x y j → Put (decimal (2147483648 - word) ++ (32 ∷ [])) number_room j y z r
-    → Put (signed (sub_ℕ word bias) ++ space) price_room at x z r
-price_below word at j r x y z h p q =
-    let e : bias - suc word + 1 ≡ 2147483648 - word = omega arith in
-    rw (lt-ltb word bias h, e) (behind (45 ∷ []) _ x y z 1 number_room at j r p q)
+-- the digits behind those of `rest` are put, from place `from` on, and there is room for the others
+pub record Digiting (n rest from : ℕ) (digits : List ℕ) : Type 0 where
+  pub some : 0 < from
+  pub upto : from ≤ 20
+  pub long : length digits ≡ 20
+  pub room : rest < 10 ^ from
+  pub so_far : decimal rest ++ drop from digits ≡ decimal n
 
-pub price_above : (word at r : ℕ) (x z : List ℕ) → 2147483648 ≤ word → Put (decimal (word - 2147483648) ++ (32 ∷ [])) number_room at x z r
-    → Put (signed (sub_ℕ word bias) ++ space) price_room at x z r
-price_above word at r x z h p = rw (le-ltb word bias h) (same_text _ _ x z number_room price_room at r p refl (omega arith))
+-- a digit more is put
+module _ (n rest from : ℕ) (digits : List ℕ) (c : Digiting n rest from digits) where
+  abbrev newer : List ℕ
+  newer = set digits (from - 1) (48 + rest % 10)
 
-pub letter_bids : (side : ℕ) → side ≡ 0 → 66 ≡ letter side
-letter_bids side e = rw (eq-eqb side 0 e)
+  put_front : drop (from - 1) newer ≡ (48 + rest % 10) ∷ drop from digits
+  put_front =
+      let some : 0 < from = c.some in
+      let upto : from ≤ 20 = c.upto in
+      let long : length digits ≡ 20 = c.long in
+      let e : from - 1 + 1 ≡ from = omega arith in
+      drop-set digits (from - 1) (48 + rest % 10) (omega arith) ∙ rw e
 
-pub letter_offers : (side : ℕ) → (side ≡ 0 → ⊥) → 79 ≡ letter side
-letter_offers side e = rw (ne_eqb side 0 e)
+  pub digits_go : (rest / 10 ≡ 0 → ⊥) → Digiting n (rest / 10) (from - 1) newer
+  digits_go h =
+      let some : 0 < from = c.some in
+      let upto : from ≤ 20 = c.upto in
+      let e : suc (from - 1) ≡ from = omega arith in
+      let room : rest < 10 ^ suc (from - 1) = rw e c.room in
+      let half : rest < 10 ^ (from - 1) * 10 = rw (← pow-suc 10 (from - 1)) room in
+      let left : rest / 10 < 10 ^ (from - 1) = omega arith in
+      record {
+        some = go (dec_le (from - 1) 0) left;
+        upto = omega arith;
+        long = length-set digits (from - 1) (48 + rest % 10) ∙ c.long;
+        room = left;
+        so_far =
+            rw put_front
+            (sym (append_assoc (decimal (rest / 10)) ((48 + rest % 10) ∷ []) (drop from digits))
+            ∙ ap (λ (l : List ℕ). l ++ drop from digits) (sym (more_digits rest (omega arith)))
+            ∙ c.so_far);
+      }
+    where
+      go : Dec (from - 1 ≤ 0) → rest / 10 < 10 ^ (from - 1) → 0 < from - 1
+      go (yes k) l =
+          let e : from - 1 ≡ 0 = omega arith in
+          let z : rest / 10 < 10 ^ 0 = subst (λ (i : ℕ). rest / 10 < 10 ^ i) e l in
+          let none : ⊥ = omega (arith, z, h) in
+          absurd none
+      go (no k) l = omega arith
+
+  pub digits_end : rest / 10 ≡ 0 → drop (from - 1) newer ≡ decimal n
+  digits_end h = put_front ∙ ap (λ (l : List ℕ). l ++ drop from digits) (sym (one_digit rest (omega arith))) ∙ c.so_far
 
 pub row_put : (code side rank l at a b c d e f r : ℕ) (row : Row) (o p q s t u v w : List ℕ) → l ≡ letter side
     → Put (decimal code ++ (32 ∷ [])) number_room at o p a
@@ -283,22 +274,10 @@ end_put answer units at a b c r o p q s t h₁ h₂ h₃ h₄ =
     let p₃ = behind _ _ o q s _ _ at b c p₂ h₃ in
     same_text _ _ o t end_room end_room at r (behind _ _ o s t _ _ at c r p₃ h₄) (simp append_assoc) (omega arith)
 
-pub all_put : (table : List ℕ) (answer units a b r : ℕ) (o p q s : List ℕ) → Put head_text head_room 0 o p a → Put (lines_text (lines (slots_in books table))) books_room a p q b
-    → Put (end_text answer units) end_room b q s r → Put (text (shown table answer units)) text_room 0 o s r
-all_put table answer units a b r o p q s h₁ h₂ h₃ = behind _ _ o q s _ _ 0 b r (behind _ _ o p q _ _ 0 a b h₁ h₂) h₃
-
 pub ruleset texts = (
   rules,
-  one_put,
-  copy_starts,
-  copy_goes,
-  copy_ends,
-  number_fits,
-  number_put,
-  price_below,
-  price_above,
-  letter_bids,
-  letter_offers,
+  digits_go,
+  digits_end,
   row_put,
   side_starts,
   side_goes,
@@ -309,5 +288,4 @@ pub ruleset texts = (
   books_go,
   books_end,
   end_put,
-  all_put,
 )

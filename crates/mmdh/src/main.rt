@@ -17,6 +17,7 @@ ghost use Rattle.mmdh.specs.Code.Rooms.{line_of, shown, Put, side_room, book_roo
 
 use feed::{Feed, Link};
 use ladder::{DEPTH, Row};
+use std::io::{Read, Stdin, Write};
 
 // The words of the books, how many slots they have, and the words of as many strips.
 const TABLE_WORDS: usize = 8192;
@@ -101,31 +102,30 @@ fn slide(buf: &mut [u8], from: usize, n: usize)
 }
 
 // One read of standard input: how many bytes came, none at its end or where the read fails.
-fn read_some(room: &mut [u8]) -> usize
+fn read_some(mut input: Stdin, room: &mut [u8]) -> usize
     ensures { result ≤ length room.new }
 {
-    let got = libc::read(0, room);
-    io::count(got, room)
+    input.read(room).unwrap_or(0)
 }
 
 // What is left moves to the front, and more is read behind it: how many bytes there are then.
-fn read_behind(buf: &mut [u8], from: usize, to: usize) -> usize
+fn read_behind(input: Stdin, buf: &mut [u8], from: usize, to: usize) -> usize
     requires { (from ≤ to) × (to ≤ length buf.old) }
     ensures { (to - from ≤ result) × (result ≤ length buf.new) × (take (to - from) buf.new ≡ take (to - from) (drop from buf.old)) }
 {
     let n = to - from;
     slide(buf, from, n);
-    n + read_some(&mut buf[n..])
+    n + read_some(input, &mut buf[n..])
 }
 
 // More is wanted: the run is over where none comes, or where there is no room for it.
-fn more(r: Run, buf: &mut [u8]) -> Run
+fn more(r: Run, input: Stdin, buf: &mut [u8]) -> Run
     requires { Within r buf.old }
     ensures { Refilled r result buf.old buf.new }
 {
     let from = r.from;
     let to = r.to;
-    let n = read_behind(buf, from, to);
+    let n = read_behind(input, buf, from, to);
     let feed = r.feed;
     Run {
         answer: r.answer,
@@ -138,19 +138,19 @@ fn more(r: Run, buf: &mut [u8]) -> Run
 }
 
 // One turn: a call, and more bytes where it is answered More.
-fn turn(r: Run, table: &mut [u64], strips: &mut [u64], buf: &mut [u8]) -> Run
+fn turn(r: Run, input: Stdin, table: &mut [u64], strips: &mut [u64], buf: &mut [u8]) -> Run
     requires { Within r buf.old × (r.units < 18446744073709551615) }
     ensures { Turned 1 r result buf.old (lent table.old strips.old) buf.new (lent table.new strips.new) }
 {
     let q = called(r, table, strips, buf);
     if q.answer == 3 {
-        return more(q, buf);
+        return more(q, input, buf);
     }
     q
 }
 
 // Turns until the run is over, or until there were more of them than any input can ask for.
-fn follow(start: Run, table: &mut [u64], strips: &mut [u64], buf: &mut [u8]) -> Run
+fn follow(start: Run, input: Stdin, table: &mut [u64], strips: &mut [u64], buf: &mut [u8]) -> Run
     requires { Within start buf.old × (start.units ≡ 0) × (start.over ≡ false) }
     ensures { Turned 9223372036854775808 start result buf.old (lent table.old strips.old) buf.new (lent table.new strips.new) }
 {
@@ -160,7 +160,7 @@ fn follow(start: Run, table: &mut [u64], strips: &mut [u64], buf: &mut [u8]) -> 
         if r.over {
             return r;
         }
-        r = turn(r, table, strips, buf);
+        r = turn(r, input, table, strips, buf);
         turns -= 1;
     }
     r
@@ -200,14 +200,31 @@ fn put(out: &mut [u8], at: usize, words: &[u8]) -> usize
     at + i
 }
 
+// Puts a number's decimal digits, of which there are at most 20, at the end of twenty bytes: the place where they begin.
+fn put_digits(digits: &mut [u8; 20], n: u64) -> usize
+    ensures inside { result ≤ 20 }
+    ensures digits { drop result digits.new ≡ decimal n }
+{
+    let mut rest = n;
+    let mut from = 20;
+    loop {
+        from -= 1;
+        digits[from] = b'0' + (rest % 10) as u8;
+        rest /= 10;
+        if rest == 0 {
+            return from;
+        }
+    }
+}
+
 // Puts a number, of at most 20 digits, and the byte that follows it at a place: the place after them.
 fn put_number(out: &mut [u8], at: usize, n: u64, after: u8) -> usize
     requires { at + number_room ≤ length out.old }
     ensures { Put (decimal n ++ (after ∷ [])) number_room at out.old out.new result }
 {
     let mut digits = [0u8; 20];
-    let k = io::decimal(n, &mut digits);
-    let end = put(out, at, &digits[..k]);
+    let from = put_digits(&mut digits, n);
+    let end = put(out, at, &digits[from..]);
     put_byte(out, end, after)
 }
 
@@ -342,7 +359,13 @@ fn render(out: &mut [u8], table: &[u64], answer: u64, units: u64) -> usize
 }
 
 // The run over standard input with 128 slots of each table, into a buffer of what it prints: how many bytes that has.
-fn program(table: &mut [u64], strips: &mut [u64], buf: &mut [u8], out: &mut [u8]) -> usize
+fn program(
+    input: Stdin,
+    table: &mut [u64],
+    strips: &mut [u64],
+    buf: &mut [u8],
+    out: &mut [u8],
+) -> usize
     requires { (table.old ≡ replicate table_words 0) × (strips.old ≡ replicate strip_words 0) × (length buf.old ≡ buffer_size) × (length out.old ≡ text_room) }
     ensures { Wrote out.new result }
 {
@@ -355,20 +378,22 @@ fn program(table: &mut [u64], strips: &mut [u64], buf: &mut [u8], out: &mut [u8]
         to: 0,
         over: false,
     };
-    let last = follow(start, table, strips, buf);
+    let last = follow(start, input, table, strips, buf);
     let end = drain(last, table, strips, buf);
     render(out, table, end.answer, end.units)
 }
 
 // Runs, and writes what is printed; a message where it cannot be written.
-fn main() {
+fn main(rt: HostRuntime) {
     let mut table = [0u64; TABLE_WORDS];
     let mut strips = [0u64; STRIPS_WORDS];
     let mut buf = [0u8; BUFFER_BYTES];
     let mut out = [0u8; TEXT_BYTES];
-    let n = program(&mut table, &mut strips, &mut buf, &mut out);
-    let written = io::write_all(1, &out[..n]);
-    if !written {
-        io::write_all(2, b"mmdh: cannot write to standard output\n");
+    let n = program(rt.stdin(), &mut table, &mut strips, &mut buf, &mut out);
+    let written = rt.stdout().write_all(&out[..n]);
+    if written.is_err() {
+        let _ = rt
+            .stderr()
+            .write_all(b"mmdh: cannot write to standard output\n");
     }
 }

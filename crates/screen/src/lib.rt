@@ -1,4 +1,4 @@
-// The library by plain C calls, for the screens: numbers, structs of numbers by value, and slices as pointer and length.
+// The library by plain calls, for the screens: numbers, structs of numbers by value, and slices. The crate screen_c exports them to C.
 #![tactic(auto)]
 
 ghost use Rattle.std.specs.Prelude.{◌≡◌};
@@ -13,7 +13,7 @@ use lines::{Heard, Line};
 
 // A feed as numbers: the phase from 0 to 6 in document 01's order, and whole and fresh as 0 (no) or anything else (yes).
 #[repr(C)]
-#[derive(Drop)]
+#[derive(Clone, Copy)]
 pub struct MmdhFeed {
     pub phase: u64,
     pub next: u64,
@@ -47,7 +47,7 @@ pub struct MmdhFrame {
 
 // A line as numbers: its feed, how many bytes wait at the front of its holding buffer, and whether it drops as 0 (no) or anything else (yes).
 #[repr(C)]
-#[derive(Drop)]
+#[derive(Clone, Copy)]
 pub struct MmdhLine {
     pub feed: MmdhFeed,
     pub held: u64,
@@ -256,24 +256,21 @@ fn plain_heard(x: Heard) -> MmdhHeard
 }
 
 // A new feed with a silence limit in milliseconds: 19 outside 1 to 600,000.
-#[unsafe(no_mangle)]
-pub extern "C" fn mmdh_new(limit: u64) -> MmdhGiven
+pub fn mmdh_new(limit: u64) -> MmdhGiven
     ensures { NewSays limit result }
 {
     plain_given(Feed::new(limit))
 }
 
 // A connect: fresh where `resuming` is 0, else resuming.
-#[unsafe(no_mangle)]
-pub extern "C" fn mmdh_connect(feed: MmdhFeed, resuming: u64, time: u64) -> MmdhGiven
+pub fn mmdh_connect(feed: MmdhFeed, resuming: u64, time: u64) -> MmdhGiven
     ensures { ConnectSays feed resuming time result }
 {
     plain_given(feed_of(feed).connect(link_of(resuming), time))
 }
 
 // An arrival of bytes.
-#[unsafe(no_mangle)]
-pub extern "C" fn mmdh_arrive(
+pub fn mmdh_arrive(
     feed: MmdhFeed,
     books: &mut [u64],
     strips: &mut [u64],
@@ -286,8 +283,7 @@ pub extern "C" fn mmdh_arrive(
 }
 
 // A whole frame's units at once, at most `allowed`. With 0 the feed comes back as it was handed in.
-#[unsafe(no_mangle)]
-pub extern "C" fn mmdh_arrive_frame(
+pub fn mmdh_arrive_frame(
     feed: MmdhFeed,
     books: &mut [u64],
     strips: &mut [u64],
@@ -310,8 +306,7 @@ pub extern "C" fn mmdh_arrive_frame(
 }
 
 // The two numbers and a message already cut.
-#[unsafe(no_mangle)]
-pub extern "C" fn mmdh_arrive_cut(
+pub fn mmdh_arrive_cut(
     feed: MmdhFeed,
     books: &mut [u64],
     strips: &mut [u64],
@@ -326,13 +321,7 @@ pub extern "C" fn mmdh_arrive_cut(
 }
 
 // A line's connect, with its holding buffer: fresh where `resuming` is 0, else resuming. Where it is refused the line comes back as it was handed in.
-#[unsafe(no_mangle)]
-pub extern "C" fn mmdh_line_connect(
-    line: MmdhLine,
-    hold: &[u8],
-    resuming: u64,
-    time: u64,
-) -> MmdhLinked
+pub fn mmdh_line_connect(line: MmdhLine, hold: &[u8], resuming: u64, time: u64) -> MmdhLinked
     ensures { LinkSays line hold.now resuming time result }
 {
     let linked = line_of(line).connect(hold, link_of(resuming), time);
@@ -348,8 +337,7 @@ pub extern "C" fn mmdh_line_connect(
 }
 
 // A scrap of a line, of which at most `allowed` units are worked on. With 0 allowed, and where the line drops, it comes back as it was handed in.
-#[unsafe(no_mangle)]
-pub extern "C" fn mmdh_line_scrap(
+pub fn mmdh_line_scrap(
     line: MmdhLine,
     books: &mut [u64],
     strips: &mut [u64],
@@ -384,8 +372,7 @@ pub extern "C" fn mmdh_line_scrap(
 }
 
 // A row by code, side and rank.
-#[unsafe(no_mangle)]
-pub extern "C" fn mmdh_read_row(table: &[u64], code: u64, side: u64, rank: u64) -> MmdhRow
+pub fn mmdh_read_row(table: &[u64], code: u64, side: u64, rank: u64) -> MmdhRow
     ensures { RowSays table.now code side rank result }
 {
     let row = books::read_row(table, code, side, rank);
@@ -398,8 +385,7 @@ pub extern "C" fn mmdh_read_row(table: &[u64], code: u64, side: u64, rank: u64) 
 }
 
 // All rows of a side at once, by code and side.
-#[unsafe(no_mangle)]
-pub extern "C" fn mmdh_read_side(table: &[u64], code: u64, side: u64) -> MmdhSide
+pub fn mmdh_read_side(table: &[u64], code: u64, side: u64) -> MmdhSide
     ensures { SideSays table.now code side result }
 {
     let read = books::read_side(table, code, side);
@@ -412,8 +398,7 @@ pub extern "C" fn mmdh_read_side(table: &[u64], code: u64, side: u64) -> MmdhSid
 }
 
 // A strip by its code.
-#[unsafe(no_mangle)]
-pub extern "C" fn mmdh_read_strip(strips: &[u64], code: u64) -> MmdhStrip
+pub fn mmdh_read_strip(strips: &[u64], code: u64) -> MmdhStrip
     ensures { StripSays strips.now code result }
 {
     let strip = strips::read_strip(strips, code);
@@ -434,37 +419,28 @@ pub extern "C" fn mmdh_read_strip(strips: &[u64], code: u64) -> MmdhStrip
 
 // A new password under an edition (111 or 136), with the last passwords: their lengths, and their bytes one after the other. 0 passes, 23 no history,
 // 15 another edition, else the first item that fails: 1 length, 2 upper, 3 lower, 4 digit, 5 special, 6 history.
-#[unsafe(no_mangle)]
-pub extern "C" fn mmdh_password(
-    edition: u64,
-    password: &[u8],
-    lengths: &[u64],
-    history: &[u8],
-) -> u64
+pub fn mmdh_password(edition: u64, password: &[u8], lengths: &[u64], history: &[u8]) -> u64
     ensures { PasswordSays edition password.now lengths.now history.now result }
 {
     password::asked(edition, password, lengths, history)
 }
 
 // The shapes of these calls, by a number that a caller compares with the one it was built with.
-#[unsafe(no_mangle)]
-pub extern "C" fn mmdh_version() -> u64
+pub fn mmdh_version() -> u64
     ensures { VersionSays result }
 {
     VERSION
 }
 
 // The badge at a time: 1 green, 2 filling, 0 stale.
-#[unsafe(no_mangle)]
-pub extern "C" fn mmdh_badge(phase: u64, heard: u64, limit: u64, time: u64) -> u64
+pub fn mmdh_badge(phase: u64, heard: u64, limit: u64, time: u64) -> u64
     ensures { BadgeSays phase heard limit time result }
 {
     feed::badge_asked(phase, heard, limit, time)
 }
 
 // Why the badge is what it is at a time: 0 live, 1 new, 2 key, 3 logon, 4 refresh, 5 silent, 6 early, 7 lost, 8 closed, 9 limit.
-#[unsafe(no_mangle)]
-pub extern "C" fn mmdh_why(phase: u64, heard: u64, limit: u64, time: u64) -> u64
+pub fn mmdh_why(phase: u64, heard: u64, limit: u64, time: u64) -> u64
     ensures { WhySays phase heard limit time result }
 {
     feed::why_asked(phase, heard, limit, time)

@@ -1,6 +1,5 @@
 -- What a call, a read, a turn and the run of the program come to (document 01, example 10). Assumes nothing.
 use Rattle.std.specs.Prelude.{ℕ, ◌+◌, ◌-◌, ◌*◌, ◌≤◌, ◌≡◌, true, false, cond, List, ◌++◌, length, take, drop, ltb, leb}
-use Rattle.io.specs.Counts.{IsPrefixLen}
 use Rattle.feed.specs.Events.{Tables, Arrive}
 use Rattle.feed.specs.Steps.{accepted, state_of, out_of, outcome}
 use Rattle.feed.specs.Program.{buffer_size, Stand, follow, printed}
@@ -67,6 +66,6 @@ pub record Drained (r q : Run) (buf : List ℕ) (x after : Tables) : Type 0 wher
 -- whatever would have come after them
 pub record Wrote (out : List ℕ) (r : ℕ) : Type 0 where
   pub came : List ℕ
-  pub counts : IsPrefixLen r out
+  pub counts : (r ≤ length out) × (r ≡ length (take r out))
   pub prints : take r out ≡ text (printed came)
   pub still : ((printed came).answer ≡ 3 → ⊥) → (rest : List ℕ) → take r out ≡ text (printed (came ++ rest))
