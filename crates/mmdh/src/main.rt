@@ -35,7 +35,7 @@ const TEXT_BYTES: usize = 37 + 2 * LINE_BYTES * DEPTH * SLOTS + 52;
 
 // How far a run has come: the last answer, the units accepted, the feed, the bytes of the buffer that are left (`from` up to
 // `to`), and whether the run is over.
-#[derive(Drop)]
+#[derive(Clone, Copy)]
 pub struct Run {
     pub answer: u64,
     pub units: u64,

@@ -26,7 +26,7 @@ pub struct MmdhFeed {
 
 // What a call hands back: the answer, the bytes used, the feed after it, and how many rows were dropped.
 #[repr(C)]
-#[derive(Drop)]
+#[derive(Clone, Copy)]
 pub struct MmdhGiven {
     pub answer: u64,
     pub used: u64,
@@ -36,7 +36,7 @@ pub struct MmdhGiven {
 
 // What a frame hands back: the last answer, how many units were accepted, the bytes that they used, the feed after them, and the rows dropped by all.
 #[repr(C)]
-#[derive(Drop)]
+#[derive(Clone, Copy)]
 pub struct MmdhFrame {
     pub answer: u64,
     pub accepted: u64,
@@ -56,7 +56,7 @@ pub struct MmdhLine {
 
 // What a line's connect hands back: the answer, and the line after it.
 #[repr(C)]
-#[derive(Drop)]
+#[derive(Clone, Copy)]
 pub struct MmdhLinked {
     pub answer: u64,
     pub line: MmdhLine,
@@ -65,7 +65,7 @@ pub struct MmdhLinked {
 // What a scrap hands back: whether there is an answer, the last one, how many units were accepted, the bytes of the scrap used, the line after it, and
 // the rows dropped by all its units.
 #[repr(C)]
-#[derive(Drop)]
+#[derive(Clone, Copy)]
 pub struct MmdhHeard {
     pub said: u64,
     pub answer: u64,
@@ -77,7 +77,7 @@ pub struct MmdhHeard {
 
 // What reading a row gives.
 #[repr(C)]
-#[derive(Drop)]
+#[derive(Clone, Copy)]
 pub struct MmdhRow {
     pub answer: u64,
     pub price: i64,
@@ -87,7 +87,7 @@ pub struct MmdhRow {
 
 // What reading a side gives: the answer, how many rows, and the rows, best first.
 #[repr(C)]
-#[derive(Drop)]
+#[derive(Clone, Copy)]
 pub struct MmdhSide {
     pub answer: u64,
     pub count: u64,
@@ -96,7 +96,7 @@ pub struct MmdhSide {
 
 // What reading a strip gives: the answer, the flags, and the values, prices signed as sent, 0 where none has come.
 #[repr(C)]
-#[derive(Drop)]
+#[derive(Clone, Copy)]
 pub struct MmdhStrip {
     pub answer: u64,
     pub flags: u64,
