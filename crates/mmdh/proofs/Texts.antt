@@ -1,17 +1,14 @@
 -- What is put into a buffer, piece by piece, is the text. Assumes nothing.
 use Prim.Native.Nat.{ℕ, zero, suc, ◌+◌, ◌-◌, ◌*◌, ◌/◌, ◌%◌, ◌^◌, ◌≤◌, ◌<◌, min}
-use mathlib.Core.Path.{◌≡◌, refl, ap, sym, subst, ◌∙◌}
-use mathlib.Core.Bool.{cond}
+use mathlib.Core.Path.{◌≡◌, refl, ap, sym, ◌∙◌, subst}
 use mathlib.Core.List.{List, [], ◌∷◌, ◌++◌, append_assoc, append-nil}
 use native.Mathlib.Numerals.{add-one}
 use native.Mathlib.Decide.{dec_le}
 use native.Mathlib.Nat.{add-zero, pow-suc}
 use native.Mathlib.Omega.{arith}
-use lib.ListN.{length, take, drop, set, get_or, length-set}
-use lib.Dec.{ltb}
-use lib.Seq.{take-suc, take_all, length-take-le}
+use lib.ListN.{length, take, drop, set, get_or, length-set, length-take}
+use lib.Seq.{take-suc, take-suc-set, take_all, length-take-le}
 use lib.IntN.{sub_ℕ}
-use Rattle.std.proofs.lemmas.List.{drop-set}
 use borrow.Author.Rules.{rules}
 use borrow.Author.Tests.{lt-ltb, le-ltb, eq-eqb, ne_eqb}
 use Rattle.wire.specs.Number.{bias}
@@ -24,8 +21,11 @@ use Rattle.ladder.specs.Words.{row_of, rows_from, book_width, side_width, offers
 use Rattle.ladder.specs.declared.Row.{Row}
 use Rattle.ladder.proofs.Loads.{rows_ten, row_is}
 use Rattle.feed.specs.Program.{Line, side_lines, lines, table_words}
-use Rattle.mmdh.specs.Text.{digits_of, decimal, signed, letter, space, line_text, lines_text, end_text}
-use Rattle.mmdh.specs.Code.Rooms.{line_of, Put, side_room, book_room, books_room, line_room, end_room, price_room, number_room, slots}
+use Rattle.mmdh.specs.Text.{digits_of, decimal, signed, letter, space, head_text, line_text, lines_text, end_text, text}
+use Rattle.mmdh.specs.Code.Rooms.{line_of, shown, Put, side_room, book_room, books_room, text_room, line_room, end_room, price_room, number_room, head_room, slots}
+use mathlib.Core.Bool.{cond}
+use lib.Dec.{ltb}
+use Rattle.std.proofs.lemmas.List.{drop-set}
 
 -- one text behind another
 behind : (s t x y z : List ℕ) (m n i j k : ℕ) → Put s m i x y j → Put t n j y z k → Put (s ++ t) (m + n) i x z k
@@ -273,6 +273,53 @@ end_put answer units at a b c r o p q s t h₁ h₂ h₃ h₄ =
     let p₂ = behind _ _ o p q _ _ at a b h₁ h₂ in
     let p₃ = behind _ _ o q s _ _ at b c p₂ h₃ in
     same_text _ _ o t end_room end_room at r (behind _ _ o s t _ _ at c r p₃ h₄) (simp append_assoc) (omega arith)
+
+pub one_put : (x : List ℕ) (at byte : ℕ) → at < length x → Put (byte ∷ []) 1 at x (set x at byte) (at + 1)
+one_put x at byte h = record { holds = rw (add-one, take-suc-set x at byte); few = omega arith; inside = simp length-set (omega arith) }
+
+pub copy_starts : (words old : List ℕ) (at : ℕ) → at + length words ≤ length old → Copied words old at 0 old
+copy_starts words old at h = record { long = refl; room = h; upto = omega arith; so_far = simp (add-zero, append-nil) }
+
+pub copy_goes : (words old new : List ℕ) (at i : ℕ) → Copied words old at i new → i < length words → Copied words old at (i + 1) (set new (at + i) (get_or words i 0))
+copy_goes words old new at i c h =
+    let b : ℕ = get_or words i 0 in
+    let long : length new ≡ length old = c.long in
+    let room : at + length words ≤ length old = c.room in
+    let inside : at + i < length new = omega arith in
+    let e : at + (i + 1) ≡ suc (at + i) = omega arith in
+    record {
+      long = length-set new (at + i) b ∙ long;
+      room = room;
+      upto = omega arith;
+      so_far = rw (e, take-suc-set new (at + i) b, add-one, take-suc words i 0, c.so_far, append_assoc);
+    }
+
+pub copy_ends : (words old new : List ℕ) (at i : ℕ) → Copied words old at i new → length words ≤ i → Put words (length words) at old new (at + i)
+copy_ends words old new at i c h =
+    let long : length new ≡ length old = c.long in
+    let room : at + length words ≤ length old = c.room in
+    let upto : i ≤ length words = c.upto in
+    record { holds = c.so_far ∙ ap (λ (l : List ℕ). take at old ++ l) (take_all i words h); few = omega arith; inside = omega arith }
+
+pub price_below : (word at j r : ℕ) (x y z : List ℕ) → word < 2147483648 → Put (45 ∷ []) 1 at x y j → Put (decimal (2147483648 - word) ++ (32 ∷ [])) number_room j y z r
+    → Put (signed (sub_ℕ word bias) ++ space) price_room at x z r
+price_below word at j r x y z h p q =
+    let e : bias - suc word + 1 ≡ 2147483648 - word = omega arith in
+    rw (lt-ltb word bias h, e) (behind (45 ∷ []) _ x y z 1 number_room at j r p q)
+
+pub price_above : (word at r : ℕ) (x z : List ℕ) → 2147483648 ≤ word → Put (decimal (word - 2147483648) ++ (32 ∷ [])) number_room at x z r
+    → Put (signed (sub_ℕ word bias) ++ space) price_room at x z r
+price_above word at r x z h p = rw (le-ltb word bias h) (same_text _ _ x z number_room price_room at r p refl (omega arith))
+
+pub letter_bids : (side : ℕ) → side ≡ 0 → 66 ≡ letter side
+letter_bids side e = rw (eq-eqb side 0 e)
+
+pub letter_offers : (side : ℕ) → (side ≡ 0 → ⊥) → 79 ≡ letter side
+letter_offers side e = rw (ne_eqb side 0 e)
+
+pub all_put : (table : List ℕ) (answer units a b r : ℕ) (o p q s : List ℕ) → Put head_text head_room 0 o p a → Put (lines_text (lines (slots_in books table))) books_room a p q b
+    → Put (end_text answer units) end_room b q s r → Put (text (shown table answer units)) text_room 0 o s r
+all_put table answer units a b r o p q s h₁ h₂ h₃ = behind _ _ o q s _ _ 0 b r (behind _ _ o p q _ _ 0 a b h₁ h₂) h₃
 
 pub ruleset texts = (
   rules,

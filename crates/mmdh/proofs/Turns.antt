@@ -8,12 +8,12 @@ use native.Mathlib.Omega.{arith}
 use lib.ListN.{length, take, drop, length-append, length-drop, take-append-drop}
 use lib.Seq.{take-add, drop_at, drop-drop, length-take-le}
 use borrow.Author.Rules.{rules}
-use borrow.Author.Tests.{ltb-true, ltb-false, leb-true, leb-false, le-leb, lt-leb, not-true}
+use borrow.Author.Tests.{ltb-true, ltb-false, leb-true, leb-false, le-leb, lt-leb, not-true, not-false}
 use Rattle.feed.specs.Events.{Tables, Arrive}
 use Rattle.feed.specs.Steps.{Outcome, accepted, state_of, out_of, outcome}
 use Rattle.feed.specs.Program.{buffer_size}
 use Rattle.feed.proofs.Following.{keeps, wanting, used_some}
-use Rattle.mmdh.specs.Code.Runs.{Within, left, stand_of, run_from, Called, Refilled, Turned}
+use Rattle.mmdh.specs.Code.Runs.{Within, left, stand_of, run_from, Called, Refilled, Turned, Drained}
 use Rattle.mmdh.specs.declared.Run.{Run}
 use Rattle.mmdh.proofs.Follows.{call_goes, call_ends, call_wants, answer_free}
 
@@ -205,6 +205,15 @@ to_do r = cond r.over 0 (1 + (r.to - r.from))
 opposite : (b : Bool) → b ≡ true → b ≡ false → ⊥
 opposite b t f = let z : ◌≡◌ {A = ℕ} 0 1 = cc in omega arith
 
+pub drain_starts : (r : Run) (buf : List ℕ) (t : Tables) → Within r buf → r.units ≤ 9223372036854775808 → Draining r r buf t t
+drain_starts r buf t w h =
+    let inside : r.to ≤ length buf = w.inside in
+    let size : length buf ≡ buffer_size = w.size in
+    record { within = w; room = omega arith; words = refl; stripped = refl; on = λ f g. refl; ends = λ f g. absurd (opposite r.over g f); same = λ f. (f, refl) }
+
+pub drain_counts : (r q : Run) (buf : List ℕ) (t u : Tables) → Draining r q buf t u → q.units < 18446744073709551615
+drain_counts r q buf t u d = omega (arith, d.room)
+
 pub drain_goes : (r q p : Run) (buf : List ℕ) (t u v : Tables) → Draining r q buf t u → not q.over ≡ true → Called q p buf u v → length v.books ≡ length u.books
     → length v.strips ≡ length u.strips → Draining r p buf t v
 drain_goes r q p buf t u v d n c w z =
@@ -229,6 +238,23 @@ drain_less r q p buf t u v d n c = go p.over refl
     go true e = rw (e, not-true q.over n) (omega arith)
     go false e = rw (e, not-true q.over n) (omega (arith, spent q p buf u v d.within c e))
 
+pub drain_ends : (r q : Run) (buf : List ℕ) (t u : Tables) → Draining r q buf t u → not q.over ≡ false → Drained r q buf t u
+drain_ends r q buf t u d n =
+    let o : q.over ≡ true = not-false q.over n in
+    record { over = o; ends = λ a. d.ends a o; same = λ a. (d.same a).1 }
+
+-- no turn
+turned_none : (r : Run) (buf : List ℕ) (t : Tables) → Within r buf → r.over ≡ false → Turned 0 r r buf t buf t
+turned_none r buf t w h =
+    record {
+      came = [];
+      within = w;
+      counts = omega arith;
+      goes = λ k rest. refl;
+      pays = λ k. omega arith;
+      ends = λ k. let z : ◌≡◌ {A = ℕ} 0 1 = cc in let y : ⊥ = omega arith in absurd y;
+    }
+
 -- a turn after others
 turned_one : (k : ℕ) (a b c : Run) (x : List ℕ) (t : Tables) (y : List ℕ) (u : Tables) (z : List ℕ) (v : Tables) → Turned k a b x t y u → b.over ≡ false → Turned 1 b c y u z v → Turned (k + 1) a c x t z v
 turned_one k a b c x t y u z v p h q =
@@ -250,6 +276,15 @@ pub record Looped (start r : Run) (turns : ℕ) (buf : List ℕ) (table : Tables
   pub stripped : length table_now.strips ≡ length table.strips
   pub turned : Turned (9223372036854775808 - turns) start r buf table buf_now table_now
 
+pub loop_starts : (r : Run) (buf : List ℕ) (t : Tables) → Within r buf → r.units ≡ 0 → r.over ≡ false → Looped r r 9223372036854775808 buf t buf t
+loop_starts r buf t w n h = record { low = omega arith; none = n; buffer = refl; words = refl; stripped = refl; turned = turned_none r buf t w h }
+
+pub loop_within : (start r : Run) (turns : ℕ) (x : List ℕ) (t : Tables) (y : List ℕ) (u : Tables) → Looped start r turns x t y u → Within r y
+loop_within start r turns x t y u l = l.turned.within
+
+pub loop_counts : (start r : Run) (turns : ℕ) (x : List ℕ) (t : Tables) (y : List ℕ) (u : Tables) → Looped start r turns x t y u → 0 < turns → r.units < 18446744073709551615
+loop_counts start r turns x t y u l h = omega (arith, l.low, l.none, l.turned.counts)
+
 pub loop_goes : (start r q : Run) (turns : ℕ) (x : List ℕ) (t : Tables) (y : List ℕ) (u : Tables) (z : List ℕ) (v : Tables) → Looped start r turns x t y u → 0 < turns → r.over ≡ false → Turned 1 r q y u z v
     → length z ≡ length y → length v.books ≡ length u.books → length v.strips ≡ length u.strips → Looped start q (turns - 1) x t z v
 loop_goes start r q turns x t y u z v l h n p b w c =
@@ -264,11 +299,36 @@ loop_goes start r q turns x t y u z v l h n p b w c =
       turned = rw e (turned_one (9223372036854775808 - turns) start r q x t y u z v l.turned n p);
     }
 
+pub loop_over : (start r : Run) (turns : ℕ) (x : List ℕ) (t : Tables) (y : List ℕ) (u : Tables) → Looped start r turns x t y u → r.over ≡ true → Turned 9223372036854775808 start r x t y u
+loop_over start r turns x t y u l h =
+    let p = l.turned in
+    record {
+      came = p.came;
+      within = p.within;
+      counts = omega (arith, p.counts);
+      goes = p.goes;
+      pays = λ k. let z : ◌≡◌ {A = ℕ} 0 1 = cc in let y : ⊥ = omega arith in absurd y;
+      ends = p.ends;
+    }
+
+pub loop_spent : (start r : Run) (turns : ℕ) (x : List ℕ) (t : Tables) (y : List ℕ) (u : Tables) → Looped start r turns x t y u → turns ≤ 0 → Turned 9223372036854775808 start r x t y u
+loop_spent start r turns x t y u l h =
+    let e : 9223372036854775808 - turns ≡ 9223372036854775808 = omega arith in
+    rw e at l.turned
+
 pub ruleset turning = (
   rules,
   turn_called,
   turn_refilled,
+  loop_starts,
+  loop_within,
+  loop_counts,
   loop_goes,
+  loop_over,
+  loop_spent,
+  drain_starts,
+  drain_counts,
   drain_goes,
   drain_less,
+  drain_ends,
 )

@@ -1,10 +1,12 @@
 -- The whole program: what it writes is what Program prints of the bytes that came. Assumes nothing.
-use Prim.Native.Nat.{ℕ}
+use Prim.Native.Nat.{ℕ, ◌≤◌}
 use mathlib.Core.Path.{◌≡◌, refl, ap, sym, ◌∙◌}
 use mathlib.Core.Bool.{Bool, true, false}
 use mathlib.Core.List.{List, [], append-nil}
-use lib.ListN.{replicate}
+use native.Mathlib.Omega.{arith}
+use lib.ListN.{length, replicate, length-replicate}
 use lib.Seq.{length-take-le}
+use borrow.Author.Rules.{rules}
 use Rattle.ground.specs.Choice as choice
 use Rattle.feed.specs.Events.{time_of, news}
 use Rattle.feed.specs.Answers.{arrives, lacks_need, is_more, is_too_long, line_tests, table_tests, tests}
@@ -28,6 +30,15 @@ begin = record { answer = 0; units = 0; state = connection }
 
 abbrev shows : Stand → List ℕ
 shows z = text (shown z.state.tables.books z.answer z.units)
+
+pub table_long : (t u : List ℕ) → t ≡ replicate table_words 0 → length u ≡ length t → length u ≡ table_words
+table_long t u e h = h ∙ ap length e ∙ length-replicate {A = ℕ} table_words 0
+
+pub table_kept : (t u v : List ℕ) → t ≡ replicate table_words 0 → length u ≡ length t → length v ≡ length u → length v ≡ table_words
+table_kept t u v e h g = g ∙ table_long t u e h
+
+pub few_units : (r q : Run) (x : List ℕ) (t : Tables) (y : List ℕ) (u : Tables) → Turned 9223372036854775808 r q x t y u → r.units ≡ 0 → q.units ≤ 9223372036854775808
+few_units r q x t y u p e = omega (arith, p.counts)
 
 module _ (feed : Feed) (last end : Run) (buf table strips buf_after : List ℕ) (after at_end : Tables) (f : feed ≡ connection.feed) (z : table ≡ replicate table_words 0) (e : strips ≡ replicate strip_words 0)
     (t : Turned 9223372036854775808 (record { answer = 0; units = 0; feed = feed; from = 0; to = 0; over = false }) last buf (lent table strips) buf_after after)
@@ -55,3 +66,5 @@ module _ (feed : Feed) (last end : Run) (buf table strips buf_after : List ℕ) 
         prints = p.holds ∙ ap shows ended;
         still = λ k rest. p.holds ∙ ap shows (ended ∙ sym (refused_stays t.came begin rest k));
       }
+
+pub ruleset whole = (rules, table_long, table_kept, few_units, wrote)
