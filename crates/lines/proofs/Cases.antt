@@ -11,7 +11,7 @@ use borrow.Author.Rules.{rules}
 use borrow.Author.Tests.{le-leb, lt-leb, lt-ltb, le-ltb}
 use Rattle.ground.specs.Choice.{first}
 use Rattle.feed.specs.Events.{Tables, Connect, Arrive, Overrun}
-use Rattle.feed.specs.Steps.{accepted, state_of, out_of, outcome}
+use Rattle.feed.specs.Steps.{state_of, out_of, outcome}
 use Rattle.feed.specs.declared.Given.{Given}
 use Rattle.feed.specs.declared.Link.{Link}
 use Rattle.lines.specs.Looks.{look}

@@ -1,5 +1,4 @@
 use mathlib.Core.Path.{refl}
-use borrow.Author.Rules.{rules}
 use Rattle.strips.specs.Words.{come}
 use Rattle.strips.proofs.Strip.has.Goals as goal
 

@@ -1,4 +1,4 @@
-use Rattle.strips.proofs.Showing.{price_at, showing}
+use Rattle.strips.proofs.Showing.{price_at}
 use borrow.Author.Rules.{rules}
 use Rattle.strips.specs.Forms.{fields_of}
 use Rattle.strips.proofs.Strip.shown.Goals as goal

@@ -1,5 +1,4 @@
 use mathlib.Core.Path.{refl}
-use borrow.Author.Rules.{rules}
 use Rattle.strips.specs.Words.{strip_of, words_from}
 use Rattle.strips.proofs.words.strip_in.Goals as goal
 
