@@ -101,7 +101,7 @@ misfits_for (Market Other) time m x = false
 unfoldable pub passed : Kind → Bool
 passed k = on_market (λ d. not (tabled d)) k
 
--- the table of document 01 from its second row on (its first, 19, is newGiven's), with 22 of document 02, request 5, "after 11 and before 12": what a
+-- the table of document 01 from its second row on (its first, 19, is new_given's), with 22 of document 02, request 5, "after 11 and before 12": what a
 -- feed decides by itself ..
 unfoldable pub line_tests : Feed → ℕ → News → List (Bool × Answer)
 line_tests f time n =
