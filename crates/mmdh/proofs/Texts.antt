@@ -6,7 +6,7 @@ use native.Mathlib.Numerals.{add-one}
 use native.Mathlib.Decide.{dec_le}
 use native.Mathlib.Nat.{add-zero, pow-suc}
 use native.Mathlib.Omega.{arith}
-use lib.ListN.{length, take, drop, set, get_or, length-set, length-take}
+use lib.ListN.{length, take, drop, set, get_or, length-set}
 use lib.Seq.{take-suc, take-suc-set, take_all, length-take-le}
 use lib.IntN.{sub_ℕ}
 use borrow.Author.Rules.{rules}

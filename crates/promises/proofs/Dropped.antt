@@ -23,7 +23,7 @@ use Rattle.ladder.specs.Message.{depth, has_entries, entries}
 use Rattle.ladder.specs.Sides.{no_row, has, row_at, moved_down, new_rows, pushed_out, fits, rows_after, fell_from, was_dropped, on_side}
 use Rattle.ladder.specs.Walk.{Book, empty_book, with_bids, with_offers, on_book, walk, fell_off, dropped, book_after}
 use Rattle.ladder.specs.Code.Arrays.{drops_tenth}
-use Rattle.ladder.specs.Words.{bounded, SoundRows}
+use Rattle.ladder.specs.Words.{bounded}
 use Rattle.ladder.specs.declared.Way.{Way}
 use Rattle.ladder.specs.declared.Way.TheVariants.{Bid, Offer}
 use Rattle.ladder.specs.declared.Row.{Row}
@@ -42,7 +42,7 @@ use Rattle.feed.specs.declared.Datum.TheVariants.{Book as Books, Strip, Other}
 use Rattle.feed.specs.declared.Answer.{Answer}
 use Rattle.feed.specs.declared.Answer.TheVariants.{Keep, Lose, Spoil, Skip, Take}
 use Rattle.lines.specs.Scraps.{Hearing}
-use Rattle.promises.specs.Runs.{after, run, answer_of, trace}
+use Rattle.promises.specs.Runs.{after, run, trace}
 use Rattle.promises.specs.Frames.{dropped_in}
 use Rattle.promises.specs.Scraps.{Lined, state_on, lined_in, scrapped, scrap_events, scrap_said, View, scraps, one_piece}
 use Rattle.promises.specs.Dropped as D

@@ -1,5 +1,5 @@
 -- Scraps and single arrivals, proved: each is named as its statement in specs/Scraps, with a small letter. Assumes nothing.
-use Prim.Native.Nat.{ℕ, zero, suc, ◌+◌, ◌-◌, ◌≤◌, ◌<◌, max}
+use Prim.Native.Nat.{ℕ, zero, suc, ◌+◌, ◌≤◌, ◌<◌, max}
 use native.Mathlib.Omega.{arith}
 use mathlib.Core.Path.{◌≡◌, refl, sym, ap, ◌∙◌, subst}
 use mathlib.Core.Bool.{Bool, true, false, cond, not, ◌||◌, true≢false}
@@ -21,12 +21,11 @@ use Rattle.ladder.proofs.Keeps.{bytes_drop}
 use Rattle.ladder.proofs.Orders.{all_append, all_take}
 use Rattle.feed.specs.Messages.{wrong_size}
 use Rattle.feed.specs.Feeds.{deaf}
-use Rattle.feed.specs.Events.{State, Event, Arrive, Overrun, More, Heartbeat, TooLong, Message, cut_from, news, time_of, on_message, news_size, offered}
+use Rattle.feed.specs.Events.{State, Event, Arrive, Overrun, Message, cut_from, news, time_of, on_message, news_size, offered}
 use Rattle.feed.specs.Answers.{number, arrives, lacks_need, is_too_long, is_more, line_tests, table_tests, tests, answer_to}
 use Rattle.feed.specs.Steps.{Outcome, accepted, used_of, act, dropped_on, state_of, handed, outcome}
 use Rattle.feed.specs.Frames as frame
 use Rattle.feed.specs.Frames.{Framed, framed_of, opened}
-use Rattle.feed.specs.Code.Judging.{answered}
 use Rattle.feed.specs.declared.Answer.{Answer}
 use Rattle.feed.specs.declared.Answer.TheVariants.{Take}
 use Rattle.feed.proofs.Laws.{numbered}

@@ -14,12 +14,11 @@ use Rattle.wire.specs.declared.Unit.TheVariants as unit
 use Rattle.slots.specs.Layout.{cleared_in}
 use Rattle.slots.proofs.Ours.{ours_start, clear_ours}
 use Rattle.ladder.specs.Walk as Walk
-use Rattle.ladder.specs.Words.{sound}
 use Rattle.ladder.proofs.Orders.{all_take, all_drop}
 use Rattle.books.specs.Table.{books, book_in}
 use Rattle.books.proofs.Frames.{AllSound, books_sound, books_each, cleared_sound, cleared_empty}
 use Rattle.feed.specs.Messages.{kind, status_of, logon_status}
-use Rattle.feed.specs.Events.{State, Event, Connect, Arrive, Cut, Overrun, Message, news, cut_from}
+use Rattle.feed.specs.Events.{State, Event, Connect, Arrive, Cut, Overrun, news, cut_from}
 use Rattle.feed.specs.Answers.{unsound_for, no_slot_for, misfits_for}
 use Rattle.feed.specs.Steps.{cleared, logged_on, tables_after, does, taken}
 use Rattle.feed.specs.declared.Kind.{Kind}

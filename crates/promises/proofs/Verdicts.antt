@@ -5,12 +5,12 @@ use mathlib.Core.Path.{◌≡◌, refl, sym, ap, subst, ◌∙◌}
 use mathlib.Core.Bool.{Bool, true, false, not, cond, ◌&&◌, ◌||◌, false≢true}
 use mathlib.Core.List.{List, [], ◌∷◌}
 use lib.ListN.{length, get_or}
-use lib.Dec.{T, eqb, ltb, leb}
+use lib.Dec.{eqb, ltb, leb}
 use borrow.Author.Tests.{eqb-true, eqb-false, ltb-true, ltb-false, le-leb, leb-true, ne_eqb}
-use Rattle.ground.specs.Choice.{one_of, pick, first, any, same}
+use Rattle.ground.specs.Choice.{pick, first, any, same}
 use Rattle.ground.proofs.Bools.{both, join, of_T, is_T}
 use Rattle.ground.proofs.Choices.{any_found, any_at, same_is, same_self}
-use Rattle.password.specs.Rule.{edition_no, verdict_no, shortest, between, asks_special, is_of, lacks, total, misses, bad_history, lasts, items, verdict_of, plain_verdict}
+use Rattle.password.specs.Rule.{verdict_no, shortest, between, asks_special, is_of, lacks, total, bad_history, lasts, items, verdict_of, plain_verdict}
 use Rattle.password.specs.declared.Edition.{Edition}
 use Rattle.password.specs.declared.Edition.TheVariants.{E111, E136}
 use Rattle.password.specs.declared.Class.{Class}

@@ -1,5 +1,5 @@
 -- A case for each sentence of request 6, "Show the row that fell off" (document 02): entries, messages, frames and scraps. Assumes nothing.
-use Rattle.std.specs.Prelude.{ℕ, true, false, ◌&&◌, List, [], ◌∷◌, ◌++◌, length, take, drop, replicate, eqb}
+use Rattle.std.specs.Prelude.{ℕ, true, false, ◌&&◌, List, [], ◌∷◌, ◌++◌, take, drop, replicate, eqb}
 use Prim.Native.String.{String}
 use Rattle.std.proofs.Math.Option.{Option, none, some}
 use Rattle.ground.specs.Choice.{same}

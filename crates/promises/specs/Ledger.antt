@@ -1,5 +1,5 @@
 -- The numbers of a run, from its events and answers alone: what the history (specs/Runs) leaves out. No feed is looked at. Assumes nothing.
-use Rattle.std.specs.Prelude.{ℕ, zero, suc, ◌+◌, Bool, true, false, cond, not, ◌&&◌, List, [], ◌∷◌, ◌++◌, ltb, leb, eqb}
+use Rattle.std.specs.Prelude.{ℕ, zero, suc, Bool, true, false, cond, not, ◌&&◌, List, [], ◌∷◌, ◌++◌, ltb, leb, eqb}
 use Rattle.feed.specs.Messages.{kind, status_of, logon_status, last_internal}
 use Rattle.feed.specs.Events.{State, Event, News, Linked, More, Heartbeat, TooLong, Message, news}
 use Rattle.feed.specs.Steps.{accepted}

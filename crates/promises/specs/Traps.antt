@@ -7,7 +7,7 @@ use Rattle.feed.specs.Program.{Line, Printed, program_run, printed}
 use Rattle.feed.specs.declared.Phase.TheVariants.{WaitLogon, Refreshing, Live, Lost, Closed}
 use Rattle.feed.specs.declared.Link.TheVariants.{Fresh, Resuming}
 use Rattle.promises.specs.Checks.{Check, same_number}
-use Rattle.promises.specs.Build.{bytes, unit, heartbeat, message, send_key, logon, logout, refresh, complete, entry, book_message, feed, start, arrives, gets, ends, case, logs_on}
+use Rattle.promises.specs.Build.{unit, heartbeat, message, send_key, logon, logout, refresh, complete, entry, book_message, feed, start, arrives, gets, ends, case, logs_on}
 use Rattle.promises.specs.Desk.{example1, words1}
 
 unfoldable pub traps : List Check
