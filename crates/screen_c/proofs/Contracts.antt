@@ -1,5 +1,5 @@
--- The contracts of the exported calls as the prover has them, as border/proofs/Contracts has those of the calls that they hand on to: they ask nothing, and any two outcomes that one allows are the same.
--- To weaken a contract, or to leave it out, breaks one of these. Assumes nothing.
+-- The contracts of the exported calls as the prover has them, as border/proofs/Contracts has those of the calls that they hand on to:
+-- they ask nothing, and any two outcomes that one of them allows are the same. To weaken a contract, or to leave it out, breaks one of these. Assumes nothing.
 use mathlib.Core.Path.{◌≡◌, sym, ap, ◌∙◌}
 use mathlib.Core.List.{[]}
 use Rattle.feed.specs.Steps.{lent}
