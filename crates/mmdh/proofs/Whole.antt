@@ -4,7 +4,7 @@ use mathlib.Core.Path.{◌≡◌, refl, ap, sym, ◌∙◌}
 use mathlib.Core.Bool.{Bool, true, false}
 use mathlib.Core.List.{List, [], append-nil}
 use native.Mathlib.Omega.{arith}
-use lib.ListN.{length, replicate, length-replicate}
+use lib.ListN.{length, replicate, take, length-replicate}
 use lib.Seq.{length-take-le}
 use borrow.Author.Rules.{rules}
 use Rattle.ground.specs.Choice as choice
@@ -18,6 +18,7 @@ use Rattle.mmdh.specs.Text.{text}
 use Rattle.mmdh.specs.Code.Rooms.{shown, Put, text_room}
 use Rattle.mmdh.specs.Code.Runs.{stand_of, run_from, left, Turned, Drained, Wrote}
 use Rattle.mmdh.specs.declared.Run.{Run}
+use Rattle.mmdh.specs.declared.output.Output.{Output}
 use Rattle.mmdh.proofs.Follows.{refused_stays}
 
 -- a connect leaves the zeroed tables as they are
@@ -58,13 +59,14 @@ module _ (feed : Feed) (last end : Run) (buf table strips buf_after : List ℕ) 
           ∙ ap (λ (l : List ℕ). run_from l (record { answer = 0; units = 0; state = state_of feed (lent table strips) })) (append-nil t.came)
           ∙ ap (run_from t.came) begins
 
-  pub wrote : (before out : List ℕ) (n : ℕ) → Put (text (shown at_end.books end.answer end.units)) text_room 0 before out n → Wrote out n
-  wrote before out n p =
+  pub wrote : (before out : Output) → before.len ≡ 0 → Put (text (shown at_end.books end.answer end.units)) text_room before out → Wrote out.bytes out.len
+  wrote before out e p =
+      let holds : take out.len out.bytes ≡ text (shown at_end.books end.answer end.units) = p.holds ∙ rw e in
       record {
         came = t.came;
-        counts = (p.inside, sym (length-take-le n out p.inside));
-        prints = p.holds ∙ ap shows ended;
-        still = λ k rest. p.holds ∙ ap shows (ended ∙ sym (refused_stays t.came begin rest k));
+        counts = (out.inside, sym (length-take-le out.len out.bytes out.inside));
+        prints = holds ∙ ap shows ended;
+        still = λ k rest. holds ∙ ap shows (ended ∙ sym (refused_stays t.came begin rest k));
       }
 
 pub ruleset whole = (rules, table_long, table_kept, few_units, wrote)
