@@ -1,12 +1,11 @@
 -- What a connect and a call of the program come to. Assumes nothing.
-use Prim.Native.Nat.{ℕ, ◌+◌, ◌-◌, ◌≤◌, ◌<◌}
+use Prim.Native.Nat.{ℕ, ◌+◌, ◌-◌, ◌≤◌}
 use mathlib.Core.Path.{◌≡◌, refl, ap, sym, ◌∙◌}
 use mathlib.Core.Bool.{cond}
 use mathlib.Core.List.{List}
 use native.Mathlib.Omega.{arith}
 use lib.Dec.{ltb}
 use lib.ListN.{length, replicate, length-take, length-drop}
-use borrow.Author.Tests.{le-leb, lt-leb}
 use Rattle.ground.specs.Choice as choice
 use Rattle.feed.specs.Feeds.{listed_limit, new_given}
 use Rattle.feed.specs.Events.{Tables, Connect, Arrive}
@@ -50,10 +49,3 @@ module _ (r : Run) (buf : List ℕ) (t u : Tables) (g : Given) (w : Within r buf
         units = k;
         over = refl;
       }
-
--- a unit is counted where it is accepted
-pub counts_one : (units answer : ℕ) → answer ≤ 2 → units + 1 ≡ cond (accepted answer) (units + 1) units
-counts_one units answer h = rw (le-leb answer 2 h)
-
-pub counts_none : (units answer : ℕ) → 2 < answer → units ≡ cond (accepted answer) (units + 1) units
-counts_none units answer h = rw (lt-leb answer 2 h)
