@@ -2,7 +2,7 @@
 ghost use Rattle.std.specs.Prelude.{◌≡◌, ◌≤◌, length, drop};
 ghost use Rattle.mmdh.specs.Text.{decimal, letter};
 
-use super::SLOTS;
+use super::{SLOTS, TABLE_WORDS};
 use ladder::{BOOK_WORDS, DEPTH, Row};
 
 // The most that can be printed: a head of 37 bytes, the lines, and a last line of 52.
@@ -152,8 +152,8 @@ impl Output {
     }
 
     // Puts all that is printed.
-    pub fn put_all(&mut self, table: &[u64], answer: u64, units: u64)
-        requires { (length table.now ≡ table_words) × (self.old.len ≡ 0) }
+    pub fn put_all(&mut self, table: &[u64; TABLE_WORDS], answer: u64, units: u64)
+        requires { self.old.len ≡ 0 }
         ensures { Put (text (shown table.now answer units)) text_room self.old self.new }
     {
         self.put(b"code side rank price quantity orders\n");
