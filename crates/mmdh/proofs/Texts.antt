@@ -124,8 +124,6 @@ module _ (n rest from : ℕ) (digits : List ℕ) (c : Digiting n rest from digit
   pub digits_end : rest / 10 ≡ 0 → drop (from - 1) newer ≡ decimal n
   digits_end h = put_front ∙ ap (λ (l : List ℕ). l ++ drop from digits) (sym (one_digit rest (omega arith))) ∙ c.so_far
 
-pub ruleset digits = (digits_go, digits_end)
-
 pub row_put : (code side rank l : ℕ) (row : Row) (o p q s t u v : Output) → l ≡ letter side
     → Put (decimal code ++ (32 ∷ [])) number_room o p
     → Put (l ∷ 32 ∷ []) 2 p q
@@ -180,7 +178,7 @@ side_ends words side base n count i old new c e h =
         take_all i (rows_from base words) (omega (arith, rows_ten base words))
         ∙ sym (take_all count (rows_from base words) (omega (arith, rows_ten base words)))
 
-pub ruleset sides = (side_starts, side_goes, side_ends)
+pub ruleset sides = (side_goes, side_ends)
 
 -- the lines of a free slot, and of a held one
 pub free_put : (words : List ℕ) (old : Output) → get_or words 0 0 ≡ 0 → Put (lines_text (lines (words ∷ []))) book_room old old
@@ -220,4 +218,4 @@ books_end table all k old new e h c f g =
     let many : length all ≡ n = rw (h ∙ chunks_are book_width n table) (length_blocks book_width n table) in
     same_text c.so_far (ap (λ (l : List (List ℕ)). lines_text (lines l)) (take_all k all g ∙ same)) (omega arith)
 
-pub ruleset table = (books_start, books_go, books_end)
+pub ruleset table = (books_go, books_end)

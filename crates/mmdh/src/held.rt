@@ -7,7 +7,7 @@ use std::io::{Read, Stdin};
 // The bytes that can be held.
 const BUFFER_BYTES: usize = 65536;
 
-// The bytes that are left, in a buffer: those from `from` up to `to`.
+// The bytes that are left, in a buffer: those from `from` up to `to`. (A `VecDeque` would be on the heap.)
 #[derive(Drop)]
 pub struct Held {
     pub bytes: [u8; BUFFER_BYTES],

@@ -111,6 +111,7 @@ impl Run {
 }
 
 // The feed of a fresh connect at time 0, with the limit 1,000.
+#[tactic(auto, using(crate::proofs::Laws::connects))]
 fn connected() -> Feed
     ensures { result ≡ connection.feed }
 {

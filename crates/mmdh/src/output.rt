@@ -10,7 +10,7 @@ const LINE_BYTES: usize = 108;
 
 const TEXT_BYTES: usize = 37 + 2 * LINE_BYTES * DEPTH * SLOTS + 52;
 
-// A text in a buffer that has room for all that is printed: its first `len` bytes.
+// A text in a buffer that has room for all that is printed: its first `len` bytes. (A `Vec` would be on the heap.)
 #[derive(Drop)]
 pub struct Output {
     pub bytes: [u8; TEXT_BYTES],
@@ -130,6 +130,7 @@ impl Output {
     }
 
     // Puts the lines of all books, in slot order.
+    #[tactic(auto, using(crate::proofs::Texts::table))]
     fn put_books(&mut self, table: &[u64])
         requires { (length table.now ≡ table_words) × (self.old.len + books_room ≤ text_room) }
         ensures { Put (lines_text (lines (slots_in books table.now))) books_room self.old self.new }
@@ -164,7 +165,7 @@ impl Output {
 
 // Puts a number's decimal digits, of which there are at most 20, at the end of twenty bytes: the place where they begin. By hand, as `program` can't fail, and
 // of what `write!` puts nothing is known where it does.
-#[tactic(auto, using(crate::proofs::Texts::digits))]
+#[tactic(auto, using(crate::proofs::Texts::digits_end))]
 fn put_digits(digits: &mut [u8; 20], n: u64) -> usize
     ensures inside { result ≤ 20 }
     ensures digits { drop result digits.new ≡ decimal n }
