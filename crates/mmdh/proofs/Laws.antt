@@ -1,22 +1,21 @@
--- What a connect and a call of the program come to. Assumes nothing.
-use Prim.Native.Nat.{ℕ, ◌+◌, ◌-◌, ◌≤◌, ◌<◌}
-use mathlib.Core.Path.{◌≡◌, refl, ap, sym, ◌∙◌}
-use mathlib.Core.Bool.{cond}
+-- What a connect, a call and the bytes that are left come to. Assumes nothing.
+use Prim.Native.Nat.{ℕ, ◌+◌, ◌-◌, ◌≤◌}
+use mathlib.Core.Path.{◌≡◌, ap, sym, ◌∙◌}
 use mathlib.Core.List.{List}
 use native.Mathlib.Omega.{arith}
-use lib.Dec.{ltb}
-use lib.ListN.{length, replicate, length-take, length-drop}
-use borrow.Author.Tests.{le-leb, lt-leb}
+use lib.ListN.{length, take, drop, replicate, length-drop}
+use lib.Seq.{take-add, drop_at, drop-drop, length-take-le}
 use Rattle.ground.specs.Choice as choice
 use Rattle.feed.specs.Feeds.{listed_limit, new_given}
 use Rattle.feed.specs.Events.{Tables, Connect, Arrive}
-use Rattle.feed.specs.Steps.{Outcome, accepted, lent, state_of, out_of, handed, outcome}
-use Rattle.feed.specs.Program.{connection, table_words, strip_words}
+use Rattle.feed.specs.Steps.{Outcome, lent, out_of, handed, outcome}
+use Rattle.feed.specs.Program.{buffer_size, connection, table_words, strip_words}
 use Rattle.feed.specs.declared.Given.{Given}
 use Rattle.feed.specs.declared.Link.TheVariants.{Fresh}
 use Rattle.feed.proofs.Laws.{used_fits}
-use Rattle.mmdh.specs.Code.Runs.{Within, left, Called}
+use Rattle.mmdh.specs.Code.Runs.{left, state_in}
 use Rattle.mmdh.specs.declared.Run.{Run}
+use Rattle.mmdh.specs.declared.held.Held.{Held}
 
 -- the feed of a fresh connect is that of Program
 pub connects : (new given : Given) → new ≡ new_given 1000
@@ -27,33 +26,22 @@ connects new given e h =
     let x : Tables = lent (replicate table_words 0) (replicate strip_words 0) in
     ap (λ (o : Outcome). o.given.feed) (h x) ∙ ap (λ (n : Given). (outcome (record { feed = n.feed; tables = x }) (Connect Fresh 0)).given.feed) e
 
-module _ (r : Run) (buf : List ℕ) (t u : Tables) (g : Given) (w : Within r buf) (e : out_of g u ≡ outcome (state_of r.feed t) (Arrive (left r buf) 0)) where
-  -- the bytes used are among those that are left
-  pub call_fits : g.used ≤ r.to - r.from
-  call_fits =
-      let h : (outcome (state_of r.feed t) (Arrive (left r buf) 0)).given.used ≤ length (left r buf) = used_fits (state_of r.feed t) (left r buf) 0 in
-      let f : g.used ≤ length (left r buf) = rw (ap (λ (o : Outcome). o.given.used) e) h in
-      omega (arith, simp (length-take, length-drop) at f)
+-- how many bytes are left, and that they are no more than the buffer has
+pub left_length : (h : Held) → length (left h) ≡ h.to - h.from
+left_length h = length-take-le (h.to - h.from) (drop h.from h.bytes) (simp length-drop (omega (arith, h.inside)))
 
-  -- what a call makes of a run
-  pub calls_meet : (units : ℕ) → units ≡ cond (accepted g.answer) (r.units + 1) r.units
-      → Called r (record { answer = g.answer; units = units; feed = g.feed; from = r.from + g.used; to = r.to; over = ltb 2 g.answer }) buf t u
-  calls_meet units k =
-      let fits : g.used ≤ r.to - r.from = call_fits in
-      let order : r.from ≤ r.to = w.order in
-      let used : r.from + g.used - r.from ≡ g.used = omega arith in
-      record {
-        within = record { order = omega arith; inside = w.inside; size = w.size };
-        forward = omega arith;
-        end = refl;
-        made = rw used ((λ i. out_of (record { answer = g.answer; used = g.used; feed = g.feed; dropped = ap (λ (o : Outcome). o.given.dropped) (sym e) i }) u) ∙ e);
-        units = k;
-        over = refl;
-      }
+pub left_short : (h : Held) → length (left h) ≤ buffer_size
+left_short h = omega (arith, left_length h, h.inside, h.size)
 
--- a unit is counted where it is accepted
-pub counts_one : (units answer : ℕ) → answer ≤ 2 → units + 1 ≡ cond (accepted answer) (units + 1) units
-counts_one units answer h = rw (le-leb answer 2 h)
+-- what is left once n of the bytes that are left are used
+pub consumed : (h : Held) (n : ℕ) → n ≤ length (left h) → take (h.to - (h.from + n)) (drop (h.from + n) h.bytes) ≡ drop n (left h)
+consumed h n g =
+    let k : ℕ = h.to - (h.from + n) in
+    let l : List ℕ = drop h.from h.bytes in
+    let e : h.to - h.from ≡ n + k = omega (arith, left_length h) in
+    let f : n ≤ length l = simp length-drop (omega (arith, left_length h, h.inside)) in
+    sym (rw (e, take-add n k l) (drop_at (take n l) (take k (drop n l)) n (length-take-le n l f) ∙ ap (take k) (drop-drop n h.from h.bytes)))
 
-pub counts_none : (units answer : ℕ) → 2 < answer → units ≡ cond (accepted answer) (units + 1) units
-counts_none units answer h = rw (lt-leb answer 2 h)
+-- the bytes that a call uses are among those that are left
+pub call_fits : (r : Run) (g : Given) (u : Tables) → out_of g u ≡ outcome (state_in r) (Arrive (left r.held) 0) → g.used ≤ length (left r.held)
+call_fits r g u e = rw (ap (λ (o : Outcome). o.given.used) e) (used_fits (state_in r) (left r.held) 0)

@@ -1,5 +1,4 @@
 pub mod Laws
-pub mod Slides
 pub mod Texts
 pub mod Follows
 pub mod Turns

@@ -1,11 +1,5 @@
-use Rattle.feed.specs.Steps.{lent}
 use Rattle.mmdh.proofs.Whole.{wrote}
 use Rattle.mmdh.proofs.program.Goals as goal
 
 pub returns : goal.returns
-returns c =
-    let followed = c.follow-last in
-    let drained = c.drain-end in
-    wrote c.connected-feed.result followed.result drained.result c.args.buf.now c.args.table.now c.args.strips.now followed.new.buf
-    (lent followed.new.table followed.new.strips) (lent drained.new.table drained.new.strips) c.connected-feed.ensures c.requires.0 c.requires.1
-    followed.ensures drained.ensures c.args.out.now c.render.new.out c.render.result c.render.ensures
+returns c = wrote _ _ _ c.new-run.ensures c.follow.ensures c.drain.ensures _ _ c.new-out.ensures c.put_all.ensures

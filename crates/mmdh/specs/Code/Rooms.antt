@@ -1,5 +1,5 @@
--- How much room a text takes, and where one stands once it is put. Assumes nothing.
-use Rattle.std.specs.Prelude.{ℕ, ◌+◌, ◌*◌, ◌≤◌, ◌≡◌, List, ◌++◌, length, take}
+-- How much room a text takes, and that one is put. Assumes nothing.
+use Rattle.std.specs.Prelude.{ℕ, ◌+◌, ◌*◌, ◌≤◌, ◌≡◌, List, ◌++◌, take}
 use Rattle.std.proofs.Math.IntN.{sub_ℕ}
 use Rattle.wire.specs.Number.{bias}
 use Rattle.slots.specs.Layout.{count_in, slots_in}
@@ -7,6 +7,7 @@ use Rattle.books.specs.Table.{books}
 use Rattle.ladder.specs.Message.{depth}
 use Rattle.ladder.specs.declared.Row.{Row}
 use Rattle.feed.specs.Program.{table_words, Line, lines, Printed}
+use Rattle.mmdh.specs.declared.output.Output.{Output}
 
 -- a number and what follows it; a price with its sign; a line; a side, a book and all books; the last line; and all of it
 abbrev pub number_room : ℕ
@@ -47,8 +48,7 @@ line_of code side rank r = record { code = code; side = side; rank = rank; price
 abbrev pub shown : List ℕ → ℕ → ℕ → Printed
 shown table answer units = record { rows = lines (slots_in books table); answer = answer; units = units }
 
--- a text of at most `room` bytes stands at `at`, behind what stood before it; it ends at `r`
-pub record Put (words : List ℕ) (room at : ℕ) (old new : List ℕ) (r : ℕ) : Type 0 where
-  pub holds : take r new ≡ take at old ++ words
-  pub few : r ≤ at + room
-  pub inside : r ≤ length new
+-- a text of at most `room` bytes is put behind the text that stood there
+pub record Put (words : List ℕ) (room : ℕ) (old new : Output) : Type 0 where
+  pub holds : take new.len new.bytes ≡ take old.len old.bytes ++ words
+  pub few : new.len ≤ old.len + room
