@@ -2,12 +2,13 @@
 use Prim.Native.Nat.{ℕ, ◌+◌, ◌-◌, ◌≤◌, ◌<◌}
 use native.Mathlib.Omega.{arith}
 use mathlib.Core.Path.{◌≡◌, sym, ap, ◌∙◌}
-use mathlib.Core.Bool.{Bool, true, false, cond, ◌&&◌}
+use mathlib.Core.Bool.{Bool, true, false, cond}
 use mathlib.Core.List.{List}
 use lib.ListN.{length, take}
-use lib.Seq.{paste, length-take-le}
-use lib.Dec.{ltb, leb}
+use lib.Seq.{length-take-le}
+use lib.Dec.{ltb}
 use borrow.Author.Rules.{rules}
+use borrow.Rule.Slice.PartMut.{put_mid}
 use borrow.Author.Tests.{le-leb, lt-leb, lt-ltb, le-ltb}
 use Rattle.ground.specs.Choice.{first}
 use Rattle.feed.specs.Events.{Tables, Connect, Arrive, Overrun}
@@ -15,12 +16,11 @@ use Rattle.feed.specs.Steps.{state_of, out_of, outcome}
 use Rattle.feed.specs.declared.Given.{Given}
 use Rattle.feed.specs.declared.Link.{Link}
 use Rattle.lines.specs.Looks.{look}
-use Rattle.lines.specs.Scraps.{Holding, holding, Hearing, hearing, behind, silent, waits, refused, gathered, moved_up, settled, with_tables, looked, once, goes_on, links}
+use Rattle.lines.specs.Scraps.{Heard, Holding, holding, Hearing, hearing, behind, silent, waits, refused, gathered, moved_up, settled, with_tables, looked, once, links}
 use Rattle.lines.specs.declared.Look.{Look}
 use Rattle.lines.specs.declared.Look.TheVariants.{Waits, TooLong, Finished}
 use Rattle.lines.specs.declared.Line.{Line}
 use Rattle.lines.specs.declared.Linked.{Linked}
-use Rattle.lines.specs.declared.Heard.{Heard}
 use Rattle.lines.proofs.Copies.{behind_length, put_behind, gathered_front, gathered_long}
 use Rattle.lines.proofs.Fronts.{look_waits, look_finished}
 
@@ -30,15 +30,6 @@ cond_yes b x y e = rw e
 
 pub cond_no : {A : Type 0} (b : Bool) (x y : A) → b ≡ false → cond b x y ≡ y
 cond_no b x y e = rw e
-
--- whether a unit was accepted
-pub goes_said : (r : Heard) → r.said ≡ true → leb r.answer 2 ≡ goes_on r
-unfolding goes_on
-goes_said r e = sym (ap (λ (b : Bool). b && leb r.answer 2) e)
-
-pub goes_silent : (r : Heard) → r.said ≡ false → false ≡ goes_on r
-unfolding goes_on
-goes_silent r e = sym (ap (λ (b : Bool). b && leb r.answer 2) e)
 
 -- a connect
 module _ (l : Line) (hold : List ℕ) (link : Link) (time : ℕ) (g : Given)
@@ -59,9 +50,9 @@ module _ (l : Line) (hold : List ℕ) (link : Link) (time : ℕ) (g : Given)
   link_made h k = rw (← e x, le-leb g.answer 2 h, le-ltb (length hold) 22 k)
 
 -- all of a scrap waits
-pub waits_is : (l : Line) (h s g : List ℕ) (r : Heard) → l.held + length s ≤ length h → g ≡ paste h l.held s (length s)
-    → r ≡ silent (length s) (record { feed = l.feed; held = l.held + length s; dropping = false }) → holding r g ≡ waits l h s
-waits_is l h s g r a p e = rw (e, put_behind l.held h s (omega arith) g p)
+pub waits_is : (l : Line) (h s u : List ℕ) (k : ℕ) (r : Heard) → l.held + length s ≤ length h → k ≡ length s → u ≡ s
+    → r ≡ silent (length s) (record { feed = l.feed; held = l.held + length s; dropping = false }) → holding r (put_mid l.held k h u) ≡ waits l h s
+waits_is l h s u k r a p q e = rw (e, put_behind l.held h s (omega arith) k u p q)
 
 -- a unit has been through the feed
 module _ (g : Given) (n w k : ℕ) (h : List ℕ) where
@@ -75,11 +66,11 @@ module _ (g : Given) (n w k : ℕ) (h : List ℕ) where
   settle_refused r a e = rw (lt-leb g.answer 2 a, e)
 
 module _ (l : Line) (t u : Tables) (h s : List ℕ) (n time : ℕ) (g : Given) (r : Heard) (h' : List ℕ) where
-  pub finish_straight : l.held ≡ 0 → out_of g u ≡ outcome (state_of l.feed t) (Arrive (take n s) time) → holding r h' ≡ settled g n 0 (length s) h
-      → hearing r u h' ≡ looked (Finished n) l t h s time
+  pub finish_straight : (G : List ℕ) → l.held ≡ 0 → G ≡ h → out_of g u ≡ outcome (state_of l.feed t) (Arrive (take n s) time)
+      → holding r h' ≡ settled g n l.held (length s) G → hearing r u h' ≡ looked (Finished n) l t h s time
   unfolding looked gathered
-  finish_straight z e p =
-      rw (ap (λ (k : ℕ). ltb 0 k) z, ap (λ (k : ℕ). take n (behind k h s)) z, ← e, ap (λ (k : ℕ). settled g n k (length s) h) z, ← p)
+  finish_straight G z q e p =
+      rw (ap (λ (k : ℕ). ltb 0 k) z, ap (λ (k : ℕ). take n (behind k h s)) z, ← e, ← q, ← p)
 
   pub finish_gathered : (G : List ℕ) → l.held ≤ length h → (l.held ≡ 0 → ⊥) → n ≤ l.held + length s → G ≡ gathered n l.held h s
       → out_of g u ≡ outcome (state_of l.feed t) (Arrive (take n G) time) → holding r h' ≡ settled g n l.held (length s) G
@@ -128,7 +119,7 @@ gathered_taken w n h s g a k l e = sym (length-take-le n g (rw (e, gathered_long
 pub there_whole : (w n : ℕ) (s : List ℕ) → w ≡ 0 → n ≤ w + length s → n ≤ length s
 there_whole w n s e h = omega (arith, e)
 
-pub ruleset cases = (rules, goes_said, goes_silent, link_refused, link_short, link_made, waits_is, settle_taken, settle_refused)
+pub ruleset cases = (rules, link_refused, link_short, link_made, waits_is, settle_taken, settle_refused)
 
 pub ruleset finishes = (rules, length-take-le, finish_straight, there_whole)
 
