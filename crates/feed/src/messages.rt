@@ -48,7 +48,7 @@ fn kind_of(t: u64) -> Kind
 pub(crate) fn kind_in(m: &[u8]) -> Kind
     ensures { result ≡ kind_in m.now }
 {
-    kind_of(wire::u16_at(m, 2))
+    kind_of(wire::number_at::<2>(m, 2))
 }
 
 // Whether a book message has 12 + 24 x NoEntries bytes.
@@ -58,7 +58,7 @@ fn is_book_sized(m: &[u8]) -> bool
     if m.len() < ladder::ENTRIES_AT {
         return false;
     }
-    let n = wire::u8_at(m, ladder::NO_ENTRIES_AT) as usize;
+    let n = wire::number_at::<1>(m, ladder::NO_ENTRIES_AT) as usize;
     m.len() == ladder::ENTRIES_AT + ladder::ENTRY_BYTES * n
 }
 
@@ -98,7 +98,7 @@ pub(crate) fn is_wrong(kind: Kind, m: &[u8]) -> bool
     if m.len() < 4 {
         return true;
     }
-    let size = wire::u16_in(m, 0) as usize;
+    let size = wire::number_in::<2>(m, 0) as usize;
     if size == m.len() {
         return !is_sized(kind, m);
     }
@@ -157,9 +157,9 @@ fn is_session_listed(session: Session, m: &[u8]) -> bool
 {
     match session {
         Session::SendKey => true,
-        Session::Logon => is_listed_status(status_of(wire::u8_at(m, LOGON_STATUS_AT))),
-        Session::Logout => is_goodbye(wire::u8_at(m, STATUS_AT)),
-        Session::Refresh => wire::u8_at(m, STATUS_AT) == 0,
+        Session::Logon => is_listed_status(status_of(wire::number_at::<1>(m, LOGON_STATUS_AT))),
+        Session::Logout => is_goodbye(wire::number_at::<1>(m, STATUS_AT)),
+        Session::Refresh => wire::number_at::<1>(m, STATUS_AT) == 0,
         Session::Complete => true,
         Session::Request => true,
     }

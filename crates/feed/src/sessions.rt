@@ -49,7 +49,7 @@ impl Feed {
         match session {
             Session::SendKey => false,
             Session::Logon => is_cleared_by(
-                status_of(wire::u8_at(message, LOGON_STATUS_AT)),
+                status_of(wire::number_at::<1>(message, LOGON_STATUS_AT)),
                 self.fresh,
             ),
             Session::Logout => false,
@@ -67,10 +67,10 @@ impl Feed {
         let f = self.advanced(time);
         match session {
             Session::SendKey => f.in_phase(Phase::WaitLogon),
-            Session::Logon => f.logged_on(status_of(wire::u8_at(message, LOGON_STATUS_AT))),
+            Session::Logon => f.logged_on(status_of(wire::number_at::<1>(message, LOGON_STATUS_AT))),
             Session::Logout => f.in_phase(Phase::Closed),
             Session::Refresh => f,
-            Session::Complete => f.completed(wire::u32_at(message, LAST_AT)),
+            Session::Complete => f.completed(wire::number_at::<4>(message, LAST_AT)),
             Session::Request => f,
         }
     }

@@ -15,10 +15,9 @@ use Rattle.feed.proofs.Following.{overrun_not}
 use Rattle.ground.proofs.Bools.{cond_same, split}
 use Rattle.wire.specs.Units.{unit_of}
 use Rattle.lines.specs.Looks.{look, exceeds, finished, is_sized, full_length}
-use Rattle.lines.specs.Scraps.{Holding, Hearing, hearing, behind, laid, gathered, moved_up, settled, looked, once, onward, goes_on, through}
+use Rattle.lines.specs.Scraps.{Heard, Holding, Hearing, hearing, behind, laid, gathered, moved_up, settled, looked, once, onward, goes_on, through}
 use Rattle.lines.specs.declared.Look.{Look}
 use Rattle.lines.specs.declared.Look.TheVariants.{Waits, TooLong, Finished}
-use Rattle.lines.specs.declared.Heard.{Heard}
 use Rattle.lines.proofs.Cases.{cond_yes, cond_no}
 use Rattle.lines.proofs.Copies.{behind_length, gathered_long, gather_whole}
 use Rattle.lines.proofs.Fronts.{look_waits, look_finished}

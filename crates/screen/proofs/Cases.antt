@@ -16,10 +16,9 @@ use Rattle.feed.specs.declared.Feed.{Feed}
 use Rattle.feed.specs.declared.Given.{Given}
 use Rattle.feed.specs.declared.Frame.{Frame}
 use Rattle.ground.specs.Choice.{first}
-use Rattle.lines.specs.Scraps.{hearing, hears, links}
+use Rattle.lines.specs.Scraps.{Heard, hearing, hears, links}
 use Rattle.lines.specs.declared.Line.{Line}
 use Rattle.lines.specs.declared.Linked.{Linked}
-use Rattle.lines.specs.declared.Heard.{Heard}
 use Rattle.screen.specs.Plain.{yes, bit, link_of, feed_of, plain_feed, plain_given, plain_out, plain_outcome, plain_frame, plain_framed_of, plain_framed, line_of, plain_line, plain_heard, plain_hearing, plain_hears, plain_row, plain_side, plain_strip}
 use Rattle.screen.specs.Calls.{hands_back, frames_back, Connects, links_back, linked_back, hears_back}
 use Rattle.books.specs.declared.RowRead.{RowRead}
