@@ -1,7 +1,7 @@
 -- What each place of the code asks, from what its tests and calls told. Assumes nothing.
 use Prim.Native.Nat.{ℕ, ◌+◌, ◌-◌, ◌≤◌, ◌<◌}
 use native.Mathlib.Omega.{arith}
-use mathlib.Core.Path.{◌≡◌, sym, ap, ◌∙◌}
+use mathlib.Core.Path.{◌≡◌, refl, sym, ap, ◌∙◌}
 use mathlib.Core.Bool.{Bool, true, false, cond}
 use mathlib.Core.List.{List}
 use lib.ListN.{length, take}
@@ -9,18 +9,17 @@ use lib.Seq.{length-take-le}
 use lib.Dec.{ltb}
 use borrow.Author.Rules.{rules}
 use borrow.Rule.Slice.PartMut.{put_mid}
-use borrow.Author.Tests.{le-leb, lt-leb, lt-ltb, le-ltb}
-use Rattle.ground.specs.Choice.{first}
-use Rattle.feed.specs.Events.{Tables, Connect, Arrive, Overrun}
+use borrow.Author.Tests.{le-leb, lt-leb}
+use Rattle.std.specs.Prelude.{Option, None, Some, is_some, unwrap_or}
+use Rattle.feed.specs.Events.{Tables, Arrive, Overrun}
 use Rattle.feed.specs.Steps.{state_of, out_of, outcome}
 use Rattle.feed.specs.declared.Given.{Given}
-use Rattle.feed.specs.declared.Link.{Link}
 use Rattle.lines.specs.Looks.{look}
-use Rattle.lines.specs.Scraps.{Heard, Holding, holding, Hearing, hearing, behind, silent, waits, refused, gathered, moved_up, settled, with_tables, looked, once, links}
+use Rattle.lines.specs.Scraps.{Heard, heard_of, Holding, holding, Hearing, hearing, behind, silent, waits, refused, gathered, moved_up, settled, with_tables, looked, once}
 use Rattle.lines.specs.declared.Look.{Look}
 use Rattle.lines.specs.declared.Look.TheVariants.{Waits, TooLong, Finished}
 use Rattle.lines.specs.declared.Line.{Line}
-use Rattle.lines.specs.declared.Linked.{Linked}
+use Rattle.lines.specs.declared.Heard.{Heard as Told}
 use Rattle.lines.proofs.Copies.{behind_length, put_behind, gathered_front, gathered_long}
 use Rattle.lines.proofs.Fronts.{look_waits, look_finished}
 
@@ -31,23 +30,19 @@ cond_yes b x y e = rw e
 pub cond_no : {A : Type 0} (b : Bool) (x y : A) → b ≡ false → cond b x y ≡ y
 cond_no b x y e = rw e
 
--- a connect
-module _ (l : Line) (hold : List ℕ) (link : Link) (time : ℕ) (g : Given)
-    (e : (x : Tables) → record { given = g; tables = x } ≡ outcome (record { feed = l.feed; tables = x }) (Connect link time)) (x : Tables) where
-  abbrev Links : Linked → Type 0
-  Links r = r ≡ links (outcome (record { feed = l.feed; tables = x }) (Connect link time)).given l hold
+-- two that are seen as one are one
+answer_kept : (o : Option ℕ) → cond (is_some o) (Some (unwrap_or o 0)) None ≡ o
+answer_kept None = refl
+answer_kept (Some n) = refl
 
-  pub link_refused : 2 < g.answer → Links (record { answer = g.answer; line = l })
-  unfolding links first
-  link_refused h = rw (← e x, lt-leb g.answer 2 h)
+abbrev told : Heard → Told
+told h = record { answer = cond h.said (Some h.answer) None; accepted = h.accepted; used = h.used; line = h.line; dropped = h.dropped }
 
-  pub link_short : g.answer ≤ 2 → length hold < 22 → Links (record { answer = 22; line = l })
-  unfolding links first
-  link_short h k = rw (← e x, le-leb g.answer 2 h, lt-ltb (length hold) 22 k)
+told_kept : (r : Told) → told (heard_of r) ≡ r
+told_kept r = λ i. record { answer = answer_kept r.answer i; accepted = r.accepted; used = r.used; line = r.line; dropped = r.dropped }
 
-  pub link_made : g.answer ≤ 2 → 22 ≤ length hold → Links (record { answer = g.answer; line = record { feed = g.feed; held = 0; dropping = false } })
-  unfolding links first
-  link_made h k = rw (← e x, le-leb g.answer 2 h, le-ltb (length hold) 22 k)
+pub heard_one : (r r' : Told) → heard_of r ≡ heard_of r' → r ≡ r'
+heard_one r r' e = sym (told_kept r) ∙ ap told e ∙ told_kept r'
 
 -- all of a scrap waits
 pub waits_is : (l : Line) (h s u : List ℕ) (k : ℕ) (r : Heard) → l.held + length s ≤ length h → k ≡ length s → u ≡ s
@@ -119,7 +114,7 @@ gathered_taken w n h s g a k l e = sym (length-take-le n g (rw (e, gathered_long
 pub there_whole : (w n : ℕ) (s : List ℕ) → w ≡ 0 → n ≤ w + length s → n ≤ length s
 there_whole w n s e h = omega (arith, e)
 
-pub ruleset cases = (rules, link_refused, link_short, link_made, waits_is, settle_taken, settle_refused)
+pub ruleset cases = (rules, waits_is, settle_taken, settle_refused)
 
 pub ruleset finishes = (rules, length-take-le, finish_straight, there_whole)
 

@@ -8,6 +8,7 @@ use super::buffers::{gather, move_up};
 use super::looks::look_at;
 use super::{Heard, LEAST_HOLD, Line, Linked, Look};
 use feed::{Given, Link};
+use ground::Refusal;
 
 // A refusal: nothing waits, and what is left of the scrap is dropped.
 fn refused(given: Given, left: usize) -> Heard
@@ -126,6 +127,7 @@ impl Line {
     }
 
     // A connect, fresh or resuming, with a holding buffer, of which no byte is written.
+    #[tactic(auto, unfolding(crate::specs::Scraps::links, ground::specs::Choice::first))]
     pub fn connect(self, hold: &[u8], link: Link, time: u64) -> Linked
         ensures { ConnectSays self hold.now link time result }
     {
@@ -138,7 +140,7 @@ impl Line {
         }
         if hold.len() < LEAST_HOLD {
             return Linked {
-                answer: 22,
+                answer: Refusal::TooLong.into(),
                 line: self,
             };
         }
