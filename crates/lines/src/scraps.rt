@@ -28,7 +28,7 @@ fn refused(given: Given, left: usize) -> Heard
 }
 
 // A unit of n bytes that has been through the feed.
-#[tactic(auto, using(crate::proofs::Cases::cases))]
+#[tactic(auto, unfolding(crate::specs::Scraps::settled))]
 fn settle(given: Given, n: usize, held: usize, left: usize, hold: &mut [u8]) -> Heard
     requires { held ≤ length hold.old }
     ensures { holding (heard_of result) hold.new ≡ settled given n held left hold.old }
@@ -66,7 +66,7 @@ impl Line {
     }
 
     // All of the scrap waits.
-    #[tactic(auto, using(crate::proofs::Cases::cases))]
+    #[tactic(auto, using(crate::proofs::Copies::put_behind))]
     fn waits(self, hold: &mut [u8], scrap: &[u8]) -> Heard
         requires { self.held + length scrap.now ≤ length hold.old }
         ensures { holding (heard_of result) hold.new ≡ waits_of self hold.old scrap.now }
@@ -81,8 +81,8 @@ impl Line {
         line.silent(scrap.len())
     }
 
-    // A finished unit of n bytes goes through the feed: out of the scrap where none of it has waited, else out of the buffer.
-    #[tactic(auto, using(crate::proofs::Cases::finishes))]
+    // A finished unit of n bytes goes through the feed: out of the scrap where none of it has waited, else out of the buffer. The slices are parameters and
+    // no struct's fields: of a field each contract would have to say besides that it is the caller's slice, and as long as it was.
     fn finish(
         self,
         books: &mut [u64],
@@ -105,7 +105,7 @@ impl Line {
     }
 
     // At most one unit of what waits and the scrap behind it.
-    #[tactic(auto, using(crate::proofs::Cases::onces))]
+    #[tactic(auto, using(crate::proofs::Cases::rooms), unfolding(crate::specs::Scraps::once, crate::specs::Scraps::looked))]
     fn once(
         self,
         books: &mut [u64],
