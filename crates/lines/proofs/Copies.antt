@@ -8,7 +8,6 @@ use lib.ListN.{length, take, drop, length-drop, length-append, drop_of_length-le
 use lib.Seq.{paste, length-take-le, take_all, take_at, drop_at, take-add, take-take, take-append-le, take-append-add, length_paste_head}
 use lib.Dec.{ltb}
 use borrow.Rule.Slice.PartMut.{put_mid}
-use borrow.Author.Rules.{rules}
 use borrow.Author.Tests.{lt-ltb, le-ltb, ltb-false}
 use Rattle.std.proofs.lemmas.Slice.{put_mid-paste}
 use Rattle.lines.specs.Scraps.{behind, laid, gathered, moved_up}
@@ -34,10 +33,6 @@ module _ (w : ℕ) (h s : List ℕ) (a : w ≤ length h) where
   put_behind k u e f = rw f (placed k s (sym e))
 
   module _ (n : ℕ) where
-    pub gather_none : w ≤ 0 → h ≡ gathered n w h s
-    unfolding gathered
-    gather_none l = rw (le-ltb 0 w l)
-
     pub gather_whole : n ≤ w → h ≡ gathered n w h s
     unfolding gathered
     gather_whole l = rw (le-ltb w n l, no_second (ltb 0 w))
@@ -90,5 +85,3 @@ module _ (w n : ℕ) (h : List ℕ) (a : w ≤ length h) where
   moved_up_lem g l e =
       let k : length (drop n (take w h)) ≡ 0 + (w - n) = rw (length-drop n (take w h), length-take-le w h a) (omega arith) in
       e ∙ rw (k, rest_is l)
-
-pub ruleset copies = (rules, gather_none, gather_whole, gather_part, moved_none, moved_up_lem)

@@ -99,11 +99,6 @@ module _ (x : Told) (t u : Tables) (h h' s : List ℕ) (n : ℕ) (one : Told)
   same : hearing (heard_of one) u h' ≡ once x.line t h (drop x.used s) n
   same = rw (take_all (length s - x.used) (drop x.used s) (rw (length-drop x.used s) (omega arith))) at e
 
-  pub stands : hearing (heard_of (record one { accepted = x.accepted + one.accepted; used = x.used + one.used; dropped = x.dropped + one.dropped })) u h'
-      ≡ onward s n (hearing (heard_of x) t h)
-  unfolding onward
-  stands = rw (← same)
-
   pub used_adds : x.used ≤ length s → length s < 2 ^ 64 → Fits w64 (x.used + one.used)
   used_adds k l =
       let p : one.used ≡ (once x.line t h (drop x.used s) n).heard.used = ap (λ (o : Hearing). o.heard.used) same in
@@ -172,4 +167,4 @@ module _ (all : ℕ) (y₀ : Hearing) (s : List ℕ) (n i : ℕ) (y : Hearing) (
     pub go_stop : b ≡ false → v ≡ through all s n y₀
     go_stop q = e ∙ sym (through_ends s n y (all - i - 1) (goes false q)) ∙ left
 
-pub ruleset courses = (rules, stands, used_adds, accepted_adds, dropped_adds, go_start, go_asks, go_done, go_more, go_stop)
+pub ruleset courses = (rules, used_adds, accepted_adds, go_start, go_asks, go_done, go_more, go_stop)

@@ -1,14 +1,13 @@
 -- What has come, seen through a holding buffer: what each test of the code settles, and what stays when bytes follow. Assumes nothing.
-use Prim.Native.Nat.{ℕ, ◌+◌, ◌-◌, ◌*◌, ◌≤◌, ◌<◌, max}
+use Prim.Native.Nat.{ℕ, ◌+◌, ◌≤◌, ◌<◌, max}
 use native.Mathlib.Omega.{arith}
 use mathlib.Core.Path.{◌≡◌, refl, sym, ap, ◌∙◌}
 use mathlib.Core.Bool.{Bool, true, false, cond, not, ◌&&◌, ◌||◌, true≢false}
 use mathlib.Core.List.{List, ◌++◌}
-use lib.ListN.{length, take, drop, get_or, get_or-append, length-append, take-append-drop}
-use lib.Seq.{length-take-le, get_or-append-add}
+use lib.ListN.{length, take, drop, length-append, take-append-drop}
+use lib.Seq.{length-take-le}
 use lib.Dec.{ltb, leb, eqb}
-use borrow.Author.Rules.{rules}
-use borrow.Author.Tests.{lt-ltb, le-ltb, le-leb, lt-leb, eq-eqb, ne_eqb, ltb-true, ltb-false, leb-true}
+use borrow.Author.Tests.{le-ltb, le-leb, ltb-true, ltb-false, leb-true}
 use Rattle.wire.specs.Number.{field}
 use Rattle.wire.specs.Units.{seq_num, internal_num, msg_size, unit_of}
 use Rattle.wire.specs.declared.Unit.{Unit}
@@ -16,103 +15,13 @@ use Rattle.wire.specs.declared.Unit.TheVariants.{More, Heartbeat, Message}
 use Rattle.ground.proofs.Bools.{both, join, no_second, split}
 use Rattle.wire.proofs.Fields.{field_drop, field_append}
 use Rattle.wire.proofs.Fronts.{unit_fits, heartbeat_fits, unit_stays}
-use Rattle.lines.specs.Looks.{least_hold, is_sized, full_length, exceeds, finished, look}
+use Rattle.lines.specs.Looks.{is_sized, full_length, exceeds, finished, look}
 use Rattle.lines.specs.declared.Look.{Look}
 use Rattle.lines.specs.declared.Look.TheVariants.{Waits, TooLong, Finished}
 
--- one of three is enough
-or_second : (a b c : Bool) → b ≡ true → (a || b || c) ≡ true
-or_second true b c h = refl
-or_second false b c h = rw h
-
-or_third : (a b c : Bool) → c ≡ true → (a || b || c) ≡ true
-or_third true b c h = refl
-or_third false true c h = refl
-or_third false false c h = h
-
--- the tests of the code, one after the other
-module _ (r w : ℕ) (come : List ℕ) where
-  pub no_room : r < 22 → TooLong ≡ look r w come
-  unfolding look exceeds
-  no_room a = rw (or_second (is_sized come && ltb r (full_length come)) (ltb r least_hold) (ltb r w) (lt-ltb r 22 a))
-
-  pub too_many : r < w → TooLong ≡ look r w come
-  unfolding look exceeds
-  too_many a = rw (or_third (is_sized come && ltb r (full_length come)) (ltb r least_hold) (ltb r w) (lt-ltb r w a))
-
-  module _ (a : 22 ≤ r) (c : w ≤ r) (m : ℕ) (e : m ≡ length come) where
-    spares : (b : Bool) → (is_sized come && ltb r (full_length come)) ≡ b → look r w come ≡ cond b TooLong (finished (unit_of come))
-    unfolding look exceeds
-    spares true e = rw e
-    spares false e = rw (e, le-ltb r 22 a, le-ltb r w c)
-
-    unsized : is_sized come ≡ false → look r w come ≡ finished (unit_of come)
-    unsized e = spares false (rw e)
-
-    pub no_header : m < 20 → Waits ≡ look r w come
-    unfolding is_sized unit_of finished
-    no_header t =
-        let l : length come < 20 = rw e at t in
-        sym (unsized (rw (lt-leb 22 (length come) (omega arith))) ∙ rw (lt-ltb (length come) 20 l))
-
-    module _ (t : 20 ≤ m) where
-      there : 20 ≤ length come
-      there = rw e at t
-
-      module _ (k : ℕ) (i : k ≡ field 0 2 come) where
-        pub beat : k ≡ 20 → Finished 20 ≡ look r w come
-        unfolding is_sized unit_of finished
-        beat g =
-            let q : eqb (field 0 2 come) 20 ≡ true = rw (← i) (eq-eqb k 20 g) in
-            sym (unsized (rw q (no_and (leb 22 (length come)))) ∙ rw (le-ltb (length come) 20 there, q))
-          where
-            no_and : (z : Bool) → (z && false) ≡ false
-            no_and true = refl
-            no_and false = refl
-
-        module _ (g : k ≡ 20 → ⊥) where
-          other : eqb (field 0 2 come) 20 ≡ false
-          other = rw (← i) (ne_eqb k 20 g)
-
-          pub no_size_lem : m < 22 → Waits ≡ look r w come
-          unfolding is_sized unit_of finished
-          no_size_lem t₂ =
-              let l : length come < 22 = rw e at t₂ in
-              sym (unsized (rw (lt-leb 22 (length come) l)) ∙ rw (le-ltb (length come) 20 there, other, lt-ltb (length come) 22 l))
-
-          module _ (t₂ : 22 ≤ m) where
-            sized : 22 ≤ length come
-            sized = rw e at t₂
-
-            is_sized_lem : is_sized come ≡ true
-            unfolding is_sized
-            is_sized_lem = rw (le-leb 22 (length come) sized, other)
-
-            module _ (n : ℕ) (j : n ≡ field 20 2 come) where
-              says : msg_size (drop 20 come) ≡ n
-              says = field_drop 0 2 20 come ∙ sym j
-
-              full : full_length come ≡ 20 + n
-              full = rw says
-
-              pub too_long_lem : r < 20 + n → TooLong ≡ look r w come
-              too_long_lem m = sym (spares true (rw (is_sized_lem, full, lt-ltb r (20 + n) m)))
-
-              module _ (b : 20 + n ≤ r) where
-                fits : look r w come ≡ finished (unit_of come)
-                fits = spares false (rw (is_sized_lem, full, le-ltb r (20 + n) b))
-
-                pub no_body : m < 20 + n → Waits ≡ look r w come
-                unfolding unit_of finished
-                no_body t₃ =
-                    let l : length come < 20 + n = rw e at t₃ in
-                    sym (fits ∙ rw (le-ltb (length come) 20 there, other, le-ltb (length come) 22 sized, says, lt-ltb (length come) (20 + n) l))
-
-                pub whole : (z : ℕ) → z ≡ max 2 n → 20 + n ≤ m → Finished (20 + z) ≡ look r w come
-                unfolding unit_of finished
-                whole z q t₃ =
-                    let l : 20 + n ≤ length come = rw e at t₃ in
-                    rw q (sym (fits ∙ rw (le-ltb (length come) 20 there, other, le-ltb (length come) 22 sized, says, le-ltb (length come) (20 + n) l)))
+-- MsgSize, where it stands
+pub size_says : (s : List ℕ) → msg_size (drop 20 s) ≡ field 20 2 s
+size_says s = field_drop 0 2 20 s
 
 -- what a unit that has come tells
 abbrev Sized : List ℕ → ℕ → Type 0
@@ -333,22 +242,3 @@ pub look_stays : (r w : ℕ) (a b : List ℕ) (v : Look) → look r w a ≡ v �
 look_stays r w a b TooLong e k = long_stays r w a b e
 look_stays r w a b Waits e k = absurd (k refl)
 look_stays r w a b (Finished n) e k = finished_stays r w a b n e
-
--- a byte that waits, and one of the scrap
-module _ (a p : List ℕ) (at x : ℕ) where
-  pub byte_held : at < length a → x ≡ get_or a at 0 → x ≡ get_or (a ++ p) at 0
-  byte_held l e = e ∙ sym (get_or-append a p 0 at l)
-
-  pub byte_come : length a ≤ at → x ≡ get_or p (at - length a) 0 → x ≡ get_or (a ++ p) at 0
-  byte_come l q =
-      let e : length a + (at - length a) ≡ at = omega arith in
-      q ∙ sym (get_or-append-add a p (at - length a) 0) ∙ ap (λ (k : ℕ). get_or (a ++ p) k 0) e
-
--- two bytes of them, as a number
-pub two_bytes : (s : List ℕ) (at a b : ℕ) → a ≡ get_or s at 0 → b ≡ get_or s (at + 1) 0 → a + 256 * b ≡ field at 2 s
-unfolding field
-two_bytes s at a b p q = rw (← p, ← q) (omega arith)
-
-pub ruleset fronts = (rules, no_room, too_many, no_header, beat, no_size_lem, too_long_lem, no_body, whole)
-
-pub ruleset pieces = (rules, byte_held, byte_come, two_bytes)

@@ -22,7 +22,6 @@ impl Come<'_> {
     }
 
     // One of them.
-    #[tactic(auto, using(crate::proofs::Fronts::pieces))]
     fn byte_at(&self, at: usize) -> u8
         requires { at < length (self.now.waiting.now ++ self.now.scrap.now) }
         ensures { result ≡ get_or (self.now.waiting.now ++ self.now.scrap.now) at 0 }
@@ -36,7 +35,7 @@ impl Come<'_> {
     }
 
     // The number in two of them.
-    #[tactic(auto, using(crate::proofs::Fronts::pieces))]
+    #[tactic(auto, unfolding(wire::specs::Number::field))]
     fn number_at(&self, at: usize) -> usize
         requires { at + 2 ≤ length (self.now.waiting.now ++ self.now.scrap.now) }
         ensures { (result ≡ field at 2 (self.now.waiting.now ++ self.now.scrap.now)) × (result < 2 ^ 16) }
@@ -46,7 +45,7 @@ impl Come<'_> {
 }
 
 // What they ask for.
-#[tactic(auto, using(crate::proofs::Fronts::fronts))]
+#[tactic(auto, using(crate::proofs::Fronts::size_says), unfolding(crate::specs::Looks::look, crate::specs::Looks::exceeds, crate::specs::Looks::is_sized, crate::specs::Looks::finished, wire::specs::Units::unit_of))]
 pub(crate) fn look_at(hold: &[u8], held: usize, scrap: &[u8]) -> Look
     ensures { result ≡ look (length hold.now) held (behind held hold.now scrap.now) }
 {

@@ -181,6 +181,7 @@ impl Line {
 // Where a scrap stands.
 impl Heard {
     // Once more, at the bytes of the scrap that are left.
+    #[tactic(auto, unfolding(crate::specs::Scraps::onward))]
     fn onward(
         self,
         books: &mut [u64],
