@@ -12,16 +12,16 @@ use mir.Val.{Fits}
 use borrow.Author.Rules.{rules}
 use Rattle.ground.proofs.Bools.{split}
 use Rattle.feed.specs.Events.{Tables, State, Arrive}
-use Rattle.feed.specs.Steps.{accepted, lent, state_of, outcome}
+use Rattle.feed.specs.Steps.{accepted, state_of, outcome}
 use Rattle.feed.specs.declared.Given.{Given}
 use Rattle.feed.proofs.Following.{overrun_not}
 use Rattle.feed.proofs.Laws.{used_fits, drops_fit}
 use Rattle.lines.specs.Looks.{look}
-use Rattle.lines.specs.Scraps.{Holding, Hearing, hearing, behind, silent, gathered, settled, looked, once, onward, goes_on, through}
+use Rattle.lines.specs.Scraps.{Heard, heard_of, Holding, Hearing, hearing, behind, silent, gathered, settled, looked, once, onward, goes_on, through}
 use Rattle.lines.specs.declared.Look.{Look}
 use Rattle.lines.specs.declared.Look.TheVariants.{Waits, TooLong, Finished}
 use Rattle.lines.specs.declared.Line.{Line}
-use Rattle.lines.specs.declared.Heard.{Heard}
+use Rattle.lines.specs.declared.Heard.{Heard as Told}
 use Rattle.lines.proofs.Fronts.{look_finished}
 
 -- one unit at most: the bytes that it uses are within the scrap, it is counted where it is accepted, and the rows that it drops and the bytes that wait
@@ -94,15 +94,10 @@ module _ (s : List ℕ) (n : ℕ) (y : Hearing) where
   through_ends k h = rw h
 
 -- what one call at the rest of the scrap hands back is where the scrap then stands
-module _ (x : Heard) (t u : Tables) (h h' s : List ℕ) (n : ℕ) (one : Heard)
-    (e : hearing one u h' ≡ once x.line t h (take (length s - x.used) (drop x.used s)) n) where
-  same : hearing one u h' ≡ once x.line t h (drop x.used s) n
+module _ (x : Told) (t u : Tables) (h h' s : List ℕ) (n : ℕ) (one : Told)
+    (e : hearing (heard_of one) u h' ≡ once x.line t h (take (length s - x.used) (drop x.used s)) n) where
+  same : hearing (heard_of one) u h' ≡ once x.line t h (drop x.used s) n
   same = rw (take_all (length s - x.used) (drop x.used s) (rw (length-drop x.used s) (omega arith))) at e
-
-  pub stands : hearing (record { said = one.said; answer = one.answer; accepted = x.accepted + one.accepted; used = x.used + one.used; line = one.line; dropped = x.dropped + one.dropped }) u h'
-      ≡ onward s n (hearing x t h)
-  unfolding onward
-  stands = rw (← same)
 
   pub used_adds : x.used ≤ length s → length s < 2 ^ 64 → Fits w64 (x.used + one.used)
   used_adds k l =
@@ -126,61 +121,50 @@ module _ (x : Heard) (t u : Tables) (h h' s : List ℕ) (n : ℕ) (one : Heard)
       let q = once_orderly x.line t h (drop x.used s) n in
       record { fits = omega (arith, p, q.few, q.inside, length-drop x.used s) }
 
--- what the loop keeps: what is left to do from here ends where all of it ends
-pub record Goes (all : ℕ) (x₀ : Heard) (t₀ : Tables) (h₀ s : List ℕ) (n : ℕ) (x : Heard) (t : Tables) (h : List ℕ) : Type 0 where
-  pub ends : through (all - x.accepted) s n (hearing x t h) ≡ through all s n (hearing x₀ t₀ h₀)
-  pub inside : x.used ≤ length s
-  pub few : x.dropped + min x.line.held (length h) ≤ length h + x.used
-  pub upto : x.accepted ≤ all
+-- what the loop keeps after i units: what is left to do from here ends where all of it ends
+pub record Goes (all : ℕ) (y₀ : Hearing) (s : List ℕ) (n i : ℕ) (y : Hearing) : Type 0 where
+  pub ends : through (all - i) s n y ≡ through all s n y₀
+  pub inside : y.heard.used ≤ length s
+  pub few : y.heard.dropped + min y.heard.line.held (length y.hold) ≤ length y.hold + y.heard.used
+  pub counted : y.heard.accepted ≡ i
   pub bounded : all < 2 ^ 64
-  pub same_books : length t.books ≡ length t₀.books
-  pub same_strips : length t.strips ≡ length t₀.strips
-  pub same_hold : length h ≡ length h₀
 
-pub go_start : (l : Line) (b c h s : List ℕ) (n all : ℕ) → Fits w64 all → Goes all (silent 0 l) (lent b c) h s n (silent 0 l) (lent b c) h
-go_start l b c h s n all f =
+pub go_start : (l : Line) (x : Tables) (h s : List ℕ) (n all : ℕ) (r : Heard) → Fits w64 all → r ≡ silent 0 l
+    → Goes all (hearing (silent 0 l) x h) s n 0 (hearing r x h)
+go_start l x h s n all r f e =
     let z : all - 0 ≡ all = omega arith in
-    record { ends = rw z; inside = omega arith; few = omega arith; upto = omega arith; bounded = f.fits; same_books = refl; same_strips = refl; same_hold = refl }
+    rw e (record { ends = rw z; inside = omega arith; few = omega arith; counted = refl; bounded = f.fits })
 
-module _ (all : ℕ) (x₀ : Heard) (t₀ : Tables) (h₀ s : List ℕ) (n : ℕ) (x : Heard) (t : Tables) (h : List ℕ) (g : Goes all x₀ t₀ h₀ s n x t h) where
-  pub go_asks : x.accepted < all → (x.used ≤ length s) × (x.accepted < 18446744073709551615) × (x.dropped + min x.line.held (length h) ≤ length h + x.used)
-  go_asks l = (g.inside, omega (arith, g.bounded), g.few)
+module _ (all : ℕ) (y₀ : Hearing) (s : List ℕ) (n i : ℕ) (y : Hearing) (g : Goes all y₀ s n i y) where
+  pub go_asks : i < all → (y.heard.used ≤ length s) × (y.heard.accepted < 18446744073709551615) × (y.heard.dropped + min y.heard.line.held (length y.hold) ≤ length y.hold + y.heard.used)
+  go_asks l = (g.inside, omega (arith, g.bounded, g.counted), g.few)
 
-  pub go_done : all ≤ x.accepted → hearing x t h ≡ through all s n (hearing x₀ t₀ h₀)
+  pub go_done : all ≤ i → y ≡ through all s n y₀
   unfolding through
-  go_done l = let z : all - x.accepted ≡ 0 = omega arith in rw z at g.ends
+  go_done l = let z : all - i ≡ 0 = omega arith in rw z at g.ends
 
-  module _ (l : x.accepted < all) (y : Heard) (u : Tables) (k : List ℕ) (e : hearing y u k ≡ onward s n (hearing x t h)) (b : Bool) (f : b ≡ goes_on y) where
-    left : through (suc (all - x.accepted - 1)) s n (hearing x t h) ≡ through all s n (hearing x₀ t₀ h₀)
-    left = let z : all - x.accepted ≡ suc (all - x.accepted - 1) = omega arith in rw z at g.ends
+  module _ (l : i < all) (v : Hearing) (e : v ≡ onward s n y) (b : Bool) (f : b ≡ goes_on v.heard) where
+    left : through (suc (all - i - 1)) s n y ≡ through all s n y₀
+    left = let z : all - i ≡ suc (all - i - 1) = omega arith in rw z at g.ends
 
-    goes : (c : Bool) → b ≡ c → goes_on (onward s n (hearing x t h)).heard ≡ c
+    goes : (c : Bool) → b ≡ c → goes_on (onward s n y).heard ≡ c
     goes c q = sym (ap (λ (o : Hearing). goes_on o.heard) e) ∙ sym f ∙ q
 
-    counted_on : b ≡ true → y.accepted ≡ x.accepted + 1
-    counted_on q = ap (λ (o : Hearing). o.heard.accepted) e ∙ onward_counts s n (hearing x t h) ∙ rw (goes true q)
-
-    pub go_less : b ≡ true → all - y.accepted < all - x.accepted
-    go_less q = let p = counted_on q in omega (arith, p)
-
-    pub go_more : b ≡ true → length u.books ≡ length t.books → length u.strips ≡ length t.strips → length k ≡ length h → Goes all x₀ t₀ h₀ s n y u k
-    go_more q i j m =
-        let p = counted_on q in
-        let z : all - x.accepted - 1 ≡ all - y.accepted = omega (arith, p) in
-        let w : y.used ≡ (onward s n (hearing x t h)).heard.used = ap (λ (o : Hearing). o.heard.used) e in
-        let Few : Heard → Type 0 = λ r. r.dropped + min r.line.held (length h) ≤ length h + r.used in
+    pub go_more : b ≡ true → length v.hold ≡ length y.hold → Goes all y₀ s n (i + 1) v
+    go_more q m =
+        let p : v.heard.accepted ≡ y.heard.accepted + 1 = ap (λ (o : Hearing). o.heard.accepted) e ∙ onward_counts s n y ∙ rw (goes true q) in
+        let z : all - i - 1 ≡ all - (i + 1) = omega arith in
+        let w : v.heard.used ≡ (onward s n y).heard.used = ap (λ (o : Hearing). o.heard.used) e in
+        let Few : Heard → Type 0 = λ r. r.dropped + min r.line.held (length y.hold) ≤ length y.hold + r.used in
         record {
-          ends = rw (← z, e) (sym (through_on s n (hearing x t h) (all - x.accepted - 1) (goes true q)) ∙ left);
-          inside = rw w (onward_fits s n (hearing x t h) g.inside);
-          few = rw m (subst Few (sym (ap (λ (o : Hearing). o.heard) e)) (onward_few s n (hearing x t h) g.few));
-          upto = omega (arith, p);
+          ends = rw (← z, e) (sym (through_on s n y (all - i - 1) (goes true q)) ∙ left);
+          inside = rw w (onward_fits s n y g.inside);
+          few = rw m (subst Few (sym (ap (λ (o : Hearing). o.heard) e)) (onward_few s n y g.few));
+          counted = omega (arith, p, g.counted);
           bounded = g.bounded;
-          same_books = i ∙ g.same_books;
-          same_strips = j ∙ g.same_strips;
-          same_hold = m ∙ g.same_hold;
         }
 
-    pub go_stop : b ≡ false → hearing y u k ≡ through all s n (hearing x₀ t₀ h₀)
-    go_stop q = e ∙ sym (through_ends s n (hearing x t h) (all - x.accepted - 1) (goes false q)) ∙ left
+    pub go_stop : b ≡ false → v ≡ through all s n y₀
+    go_stop q = e ∙ sym (through_ends s n y (all - i - 1) (goes false q)) ∙ left
 
-pub ruleset courses = (rules, stands, used_adds, accepted_adds, dropped_adds, go_start, go_asks, go_done, go_less, go_more, go_stop)
+pub ruleset courses = (rules, used_adds, accepted_adds, go_start, go_asks, go_done, go_more, go_stop)

@@ -1,14 +1,13 @@
 -- What has come, seen through a holding buffer: what each test of the code settles, and what stays when bytes follow. Assumes nothing.
-use Prim.Native.Nat.{ℕ, ◌+◌, ◌-◌, ◌≤◌, ◌<◌, max}
+use Prim.Native.Nat.{ℕ, ◌+◌, ◌≤◌, ◌<◌, max}
 use native.Mathlib.Omega.{arith}
 use mathlib.Core.Path.{◌≡◌, refl, sym, ap, ◌∙◌}
 use mathlib.Core.Bool.{Bool, true, false, cond, not, ◌&&◌, ◌||◌, true≢false}
 use mathlib.Core.List.{List, ◌++◌}
-use lib.ListN.{length, take, drop, get_or, get_or-append, length-append, take-append-drop}
-use lib.Seq.{length-take-le, get_or-append-add, get_or-take}
+use lib.ListN.{length, take, drop, length-append, take-append-drop}
+use lib.Seq.{length-take-le}
 use lib.Dec.{ltb, leb, eqb}
-use borrow.Author.Rules.{rules}
-use borrow.Author.Tests.{lt-ltb, le-ltb, le-leb, lt-leb, eq-eqb, ne_eqb, ltb-true, ltb-false, leb-true}
+use borrow.Author.Tests.{le-ltb, le-leb, ltb-true, ltb-false, leb-true}
 use Rattle.wire.specs.Number.{field}
 use Rattle.wire.specs.Units.{seq_num, internal_num, msg_size, unit_of}
 use Rattle.wire.specs.declared.Unit.{Unit}
@@ -16,123 +15,13 @@ use Rattle.wire.specs.declared.Unit.TheVariants.{More, Heartbeat, Message}
 use Rattle.ground.proofs.Bools.{both, join, no_second, split}
 use Rattle.wire.proofs.Fields.{field_drop, field_append}
 use Rattle.wire.proofs.Fronts.{unit_fits, heartbeat_fits, unit_stays}
-use Rattle.wire.proofs.Cases.{two_bytes}
-use Rattle.lines.specs.Looks.{least_hold, is_sized, full_length, exceeds, finished, look}
-use Rattle.lines.specs.Scraps.{behind}
+use Rattle.lines.specs.Looks.{is_sized, full_length, exceeds, finished, look}
 use Rattle.lines.specs.declared.Look.{Look}
 use Rattle.lines.specs.declared.Look.TheVariants.{Waits, TooLong, Finished}
-use Rattle.lines.proofs.Copies.{behind_length}
 
--- one of three is enough
-or_second : (a b c : Bool) → b ≡ true → (a || b || c) ≡ true
-or_second true b c h = refl
-or_second false b c h = rw h
-
-or_third : (a b c : Bool) → c ≡ true → (a || b || c) ≡ true
-or_third true b c h = refl
-or_third false true c h = refl
-or_third false false c h = h
-
--- the tests of the code, one after the other
-module _ (h : List ℕ) (w : ℕ) (p : List ℕ) where
-  abbrev room : ℕ
-  room = length h
-
-  abbrev come : List ℕ
-  come = behind w h p
-
-  pub no_room : room < 22 → TooLong ≡ look room w come
-  unfolding look exceeds
-  no_room a = rw (or_second (is_sized come && ltb room (full_length come)) (ltb room least_hold) (ltb room w) (lt-ltb room 22 a))
-
-  pub too_many : room < w → TooLong ≡ look room w come
-  unfolding look exceeds
-  too_many a = rw (or_third (is_sized come && ltb room (full_length come)) (ltb room least_hold) (ltb room w) (lt-ltb room w a))
-
-  module _ (a : 22 ≤ room) (c : w ≤ room) where
-    long : length come ≡ w + length p
-    long = behind_length w h p c
-
-    spares : (b : Bool) → (is_sized come && ltb room (full_length come)) ≡ b → look room w come ≡ cond b TooLong (finished (unit_of come))
-    unfolding look exceeds
-    spares true e = rw e
-    spares false e = rw (e, le-ltb room 22 a, le-ltb room w c)
-
-    unsized : is_sized come ≡ false → look room w come ≡ finished (unit_of come)
-    unsized e = spares false (rw e)
-
-    pub no_header : (b : Bool) → b ≡ ltb (w + length p) 20 → b ≡ true → Waits ≡ look room w come
-    unfolding is_sized unit_of finished
-    no_header b e f =
-        let l : length come < 20 = rw long (ltb-true (w + length p) 20 (sym e ∙ f)) in
-        sym (unsized (rw (lt-leb 22 (length come) (omega arith))) ∙ rw (lt-ltb (length come) 20 l))
-
-    module _ (b : Bool) (e : b ≡ ltb (w + length p) 20) (f : b ≡ false) where
-      there : 20 ≤ length come
-      there = rw long (ltb-false (w + length p) 20 (sym e ∙ f))
-
-      module _ (k : ℕ) (i : k ≡ field 0 2 come) where
-        pub beat : k ≡ 20 → Finished 20 ≡ look room w come
-        unfolding is_sized unit_of finished
-        beat g =
-            let q : eqb (field 0 2 come) 20 ≡ true = rw (← i) (eq-eqb k 20 g) in
-            sym (unsized (rw q (no_and (leb 22 (length come)))) ∙ rw (le-ltb (length come) 20 there, q))
-          where
-            no_and : (z : Bool) → (z && false) ≡ false
-            no_and true = refl
-            no_and false = refl
-
-        module _ (g : k ≡ 20 → ⊥) (b₂ : Bool) (e₂ : b₂ ≡ ltb (w + length p) 22) where
-          other : eqb (field 0 2 come) 20 ≡ false
-          other = rw (← i) (ne_eqb k 20 g)
-
-          pub no_size_lem : b₂ ≡ true → Waits ≡ look room w come
-          unfolding is_sized unit_of finished
-          no_size_lem f₂ =
-              let l : length come < 22 = rw long (ltb-true (w + length p) 22 (sym e₂ ∙ f₂)) in
-              sym (unsized (rw (lt-leb 22 (length come) l)) ∙ rw (le-ltb (length come) 20 there, other, lt-ltb (length come) 22 l))
-
-          module _ (f₂ : b₂ ≡ false) where
-            sized : 22 ≤ length come
-            sized = rw long (ltb-false (w + length p) 22 (sym e₂ ∙ f₂))
-
-            is_sized_lem : is_sized come ≡ true
-            unfolding is_sized
-            is_sized_lem = rw (le-leb 22 (length come) sized, other)
-
-            module _ (n : ℕ) (j : n ≡ field 20 2 come) where
-              says : msg_size (drop 20 come) ≡ n
-              says = field_drop 0 2 20 come ∙ sym j
-
-              full : full_length come ≡ 20 + n
-              full = rw says
-
-              pub too_long_lem : room < 20 + n → TooLong ≡ look room w come
-              too_long_lem m = sym (spares true (rw (is_sized_lem, full, lt-ltb room (20 + n) m)))
-
-              module _ (m : 20 + n ≤ room) (b₃ : Bool) (e₃ : b₃ ≡ ltb (w + length p) (20 + n)) where
-                fits : look room w come ≡ finished (unit_of come)
-                fits = spares false (rw (is_sized_lem, full, le-ltb room (20 + n) m))
-
-                pub no_body : b₃ ≡ true → Waits ≡ look room w come
-                unfolding unit_of finished
-                no_body f₃ =
-                    let l : length come < 20 + n = rw long (ltb-true (w + length p) (20 + n) (sym e₃ ∙ f₃)) in
-                    sym (fits ∙ rw (le-ltb (length come) 20 there, other, le-ltb (length come) 22 sized, says, lt-ltb (length come) (20 + n) l))
-
-                pub bare : b₃ ≡ false → n < 2 → Finished 22 ≡ look room w come
-                unfolding unit_of finished
-                bare f₃ k =
-                    let l : 20 + n ≤ length come = rw long (ltb-false (w + length p) (20 + n) (sym e₃ ∙ f₃)) in
-                    let m : max 2 n ≡ 2 = omega arith in
-                    sym (fits ∙ rw (le-ltb (length come) 20 there, other, le-ltb (length come) 22 sized, says, le-ltb (length come) (20 + n) l, m))
-
-                pub whole : b₃ ≡ false → 2 ≤ n → Finished (20 + n) ≡ look room w come
-                unfolding unit_of finished
-                whole f₃ k =
-                    let l : 20 + n ≤ length come = rw long (ltb-false (w + length p) (20 + n) (sym e₃ ∙ f₃)) in
-                    let m : max 2 n ≡ n = omega arith in
-                    sym (fits ∙ rw (le-ltb (length come) 20 there, other, le-ltb (length come) 22 sized, says, le-ltb (length come) (20 + n) l, m))
+-- MsgSize, where it stands
+pub size_says : (s : List ℕ) → msg_size (drop 20 s) ≡ field 20 2 s
+size_says s = field_drop 0 2 20 s
 
 -- what a unit that has come tells
 abbrev Sized : List ℕ → ℕ → Type 0
@@ -353,34 +242,3 @@ pub look_stays : (r w : ℕ) (a b : List ℕ) (v : Look) → look r w a ≡ v �
 look_stays r w a b TooLong e k = long_stays r w a b e
 look_stays r w a b Waits e k = absurd (k refl)
 look_stays r w a b (Finished n) e k = finished_stays r w a b n e
-
--- fewer bytes than n
-pub lacks_none : (w k n : ℕ) → n ≤ w → false ≡ ltb (w + k) n
-lacks_none w k n h = sym (le-ltb (w + k) n (omega arith))
-
-pub lacks_some : (w k n : ℕ) → w < n → ltb k (n - w) ≡ ltb (w + k) n
-lacks_some w k n h = go (ltb k (n - w)) refl
-  where
-    go : (b : Bool) → ltb k (n - w) ≡ b → b ≡ ltb (w + k) n
-    go true e = let l = ltb-true k (n - w) e in sym (lt-ltb (w + k) n (omega arith))
-    go false e = let l = ltb-false k (n - w) e in sym (le-ltb (w + k) n (omega arith))
-
-pub header_there : (w k : ℕ) (b : Bool) → b ≡ ltb (w + k) 20 → b ≡ false → 0 + 2 ≤ w + k
-header_there w k b e f = let l = ltb-false (w + k) 20 (sym e ∙ f) in omega arith
-
-pub size_there : (w k : ℕ) (b : Bool) → b ≡ ltb (w + k) 22 → b ≡ false → 20 + 2 ≤ w + k
-size_there w k b e f = let l = ltb-false (w + k) 22 (sym e ∙ f) in omega arith
-
--- a byte that waits, and one of the scrap
-module _ (h : List ℕ) (w : ℕ) (p : List ℕ) (at x : ℕ) (c : w ≤ length h) where
-  pub byte_held : at < w → x ≡ get_or h at 0 → x ≡ get_or (behind w h p) at 0
-  byte_held l e = e ∙ sym (get_or-append (take w h) p 0 at (rw (length-take-le w h c) l) ∙ get_or-take w h at 0 l)
-
-  pub byte_come : w ≤ at → x ≡ get_or p (at - w) 0 → x ≡ get_or (behind w h p) at 0
-  byte_come l q =
-      let e : length (take w h) + (at - w) ≡ at = rw (length-take-le w h c) (omega arith) in
-      q ∙ sym (get_or-append-add (take w h) p (at - w) 0) ∙ ap (λ (k : ℕ). get_or (behind w h p) k 0) e
-
-pub ruleset fronts = (rules, no_room, too_many, no_header, beat, no_size_lem, too_long_lem, no_body)
-
-pub ruleset pieces = (rules, lacks_none, lacks_some, header_there, size_there, byte_held, byte_come, two_bytes)

@@ -1,5 +1,5 @@
 -- Scraps through a lent holding buffer, and a line's connect (document 02, request 5). Assumes nothing.
-use Rattle.std.specs.Prelude.{ℕ, zero, suc, ◌+◌, ◌-◌, Bool, true, false, cond, not, ◌&&◌, List, [], ◌∷◌, ◌++◌, length, take, drop, ltb}
+use Rattle.std.specs.Prelude.{ℕ, zero, suc, ◌+◌, ◌-◌, Bool, true, false, cond, not, ◌&&◌, is_some, unwrap_or, List, [], ◌∷◌, ◌++◌, length, take, drop, ltb}
 use Rattle.ground.specs.Choice.{first}
 use Rattle.feed.specs.Events.{Tables, Arrive, Overrun}
 use Rattle.feed.specs.Steps.{accepted, Outcome, state_of, outcome}
@@ -9,7 +9,21 @@ use Rattle.lines.specs.declared.Look.{Look}
 use Rattle.lines.specs.declared.Look.TheVariants.{Waits, TooLong, Finished}
 use Rattle.lines.specs.declared.Line.{Line}
 use Rattle.lines.specs.declared.Linked.{Linked}
-use Rattle.lines.specs.declared.Heard.{Heard}
+use Rattle.lines.specs.declared.Heard.{Heard as Told}
+
+-- what a scrap comes to: whether there is an answer, the last one (0 where there is none), how many units were accepted, the bytes of the scrap used, the
+-- line after it, and the rows dropped by all its units
+pub record Heard : Type 0 where
+  pub said : Bool
+  pub answer : ℕ
+  pub accepted : ℕ
+  pub used : ℕ
+  pub line : Line
+  pub dropped : ℕ
+
+-- as the code has it, the answer is there or not
+abbrev pub heard_of : Told → Heard
+heard_of r = record { said = is_some r.answer; answer = unwrap_or r.answer 0; accepted = r.accepted; used = r.used; line = r.line; dropped = r.dropped }
 
 -- what a scrap's call hands back, with every byte of the buffer after it ..
 pub record Holding : Type 0 where

@@ -11,6 +11,7 @@ use Rattle.feed.proofs.Feed.arrive.Reads as arrive
 use Rattle.feed.proofs.Feed.arrive_frame.Reads as arrive-frame
 use Rattle.feed.proofs.Feed.arrive_cut.Reads as arrive-cut
 use Rattle.feed.proofs.Feed.overrun.Reads as overrun
+use Rattle.lines.proofs.Cases.{heard_one}
 use Rattle.lines.proofs.Line.connect.Reads as line-connect
 use Rattle.lines.proofs.Line.scrap.Reads as line-scrap
 use Rattle.feed.proofs.Feed.badge.Reads as badge
@@ -96,7 +97,7 @@ line_connect_one κs a r r' x x' p q = p (lent [] []) ∙ sym (q (lent [] []))
 pub line_scrap_one : (κs : _) (a : _) (r r' : _) (x x' : _) → line-scrap.Learnt κs a r x → line-scrap.Learnt κs a r' x'
     → (r ≡ r') × (x.1.0.now ≡ x'.1.0.now) × (x.1.1.0.now ≡ x'.1.1.0.now) × (x.1.1.1.0.now ≡ x'.1.1.1.0.now)
 line_scrap_one κs a r r' x x' p q =
-    (ap (λ (o : Hearing). o.heard) (p ∙ sym q), ap (λ (o : Hearing). o.tables.books) (p ∙ sym q), ap (λ (o : Hearing). o.tables.strips) (p ∙ sym q), ap (λ (o : Hearing). o.hold) (p ∙ sym q))
+    (heard_one r r' (ap (λ (o : Hearing). o.heard) (p ∙ sym q)), ap (λ (o : Hearing). o.tables.books) (p ∙ sym q), ap (λ (o : Hearing). o.tables.strips) (p ∙ sym q), ap (λ (o : Hearing). o.hold) (p ∙ sym q))
 
 pub badge_one : (κs : _) (a : _) (r r' : _) (x x' : _) → badge.Learnt κs a r x → badge.Learnt κs a r' x' → r ≡ r'
 badge_one κs a r r' x x' p q = p ∙ sym q

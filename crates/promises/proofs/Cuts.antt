@@ -15,10 +15,9 @@ use Rattle.feed.proofs.Following.{overrun_not}
 use Rattle.ground.proofs.Bools.{cond_same, split}
 use Rattle.wire.specs.Units.{unit_of}
 use Rattle.lines.specs.Looks.{look, exceeds, finished, is_sized, full_length}
-use Rattle.lines.specs.Scraps.{Holding, Hearing, hearing, behind, laid, gathered, moved_up, settled, looked, once, onward, goes_on, through}
+use Rattle.lines.specs.Scraps.{Heard, Holding, Hearing, hearing, behind, laid, gathered, moved_up, settled, looked, once, onward, goes_on, through}
 use Rattle.lines.specs.declared.Look.{Look}
 use Rattle.lines.specs.declared.Look.TheVariants.{Waits, TooLong, Finished}
-use Rattle.lines.specs.declared.Heard.{Heard}
 use Rattle.lines.proofs.Cases.{cond_yes, cond_no}
 use Rattle.lines.proofs.Copies.{behind_length, gathered_long, gather_whole}
 use Rattle.lines.proofs.Fronts.{look_waits, look_finished}
@@ -140,7 +139,7 @@ module _ (S : List (Event × ℕ)) (s : List ℕ) (t : ℕ) (y : Hearing) (d : y
         go : (b : Bool) → ltb n w ≡ b → take (w - n) (moved_up n w G) ++ drop (y.heard.used + (n - w)) s ≡ drop n come
         go true f =
             let l = ltb-true n w f in
-            let h : G ≡ y.hold = sym (gather_whole w y.hold left facts.0 n (λ z. let q : ⊥ = omega (arith, z) in q) (omega arith)) in
+            let h : G ≡ y.hold = sym (gather_whole w y.hold left facts.0 n (omega arith)) in
             let k : length (drop n (take w y.hold)) ≡ w - n = length-drop n (take w y.hold) ∙ ap (λ (i : ℕ). i - n) (length-take-le w y.hold facts.0) in
             let u : y.heard.used + (n - w) ≡ y.heard.used = omega arith in
             (λ i. take (w - n) (moved_up n w (h i)) ++ drop (u i) s)

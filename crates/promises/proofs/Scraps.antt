@@ -24,12 +24,11 @@ use Rattle.feed.specs.declared.Answer.{Answer}
 use Rattle.feed.specs.declared.Answer.TheVariants.{Keep, Lose}
 use Rattle.feed.proofs.Following.{overrun_not, whole_answered}
 use Rattle.lines.specs.Looks.{exceeds, finished, look}
-use Rattle.lines.specs.Scraps.{Holding, Hearing, hearing, behind, laid, silent, gathered, moved_up, settled, looked, once, onward, goes_on, through, links}
+use Rattle.lines.specs.Scraps.{Heard, Holding, Hearing, hearing, behind, laid, silent, gathered, moved_up, settled, looked, once, onward, goes_on, through, links}
 use Rattle.lines.specs.declared.Look.{Look}
 use Rattle.lines.specs.declared.Look.TheVariants.{Waits, TooLong, Finished}
 use Rattle.lines.specs.declared.Line.{Line}
 use Rattle.lines.specs.declared.Linked.{Linked}
-use Rattle.lines.specs.declared.Heard.{Heard}
 use Rattle.lines.proofs.Cases.{cond_yes, cond_no}
 use Rattle.lines.proofs.Fronts.{unit_whole}
 use Rattle.lines.proofs.Courses.{onward_fits, onward_counts, through_on, through_ends}

@@ -16,12 +16,11 @@ use Rattle.feed.specs.Frames.{Framed, framed}
 use Rattle.feed.specs.declared.Given.{Given}
 use Rattle.feed.specs.declared.Link.{Link}
 use Rattle.lines.specs.Looks.{least_hold, exceeds, look}
-use Rattle.lines.specs.Scraps.{Hearing, hearing, behind, silent, onward, goes_on, hears, links}
+use Rattle.lines.specs.Scraps.{Heard, Hearing, hearing, behind, silent, onward, goes_on, hears, links}
 use Rattle.lines.specs.declared.Look.{Look}
 use Rattle.lines.specs.declared.Look.TheVariants.{Waits, TooLong, Finished}
 use Rattle.lines.specs.declared.Line.{Line}
 use Rattle.lines.specs.declared.Linked.{Linked}
-use Rattle.lines.specs.declared.Heard.{Heard}
 use Rattle.promises.specs.Refusals.{ending, feed_refused}
 use Rattle.promises.specs.Runs.{Sizes, zeroed, start, after, run, answer_of, trace, end_of, tale, is_green, green, replay}
 use Rattle.promises.specs.Ledger.{up_to, last_of}

@@ -12,9 +12,8 @@ use Rattle.feed.specs.declared.Link.TheVariants.{Fresh, Resuming}
 use Rattle.feed.specs.declared.Feed.{Feed}
 use Rattle.feed.specs.declared.Given.{Given}
 use Rattle.feed.specs.declared.Frame.{Frame}
-use Rattle.lines.specs.Scraps.{Hearing}
+use Rattle.lines.specs.Scraps.{Heard, Hearing}
 use Rattle.lines.specs.declared.Line.{Line}
-use Rattle.lines.specs.declared.Heard.{Heard}
 use Rattle.screen.specs.declared.MmdhFeed.{MmdhFeed}
 use Rattle.screen.specs.declared.MmdhGiven.{MmdhGiven}
 use Rattle.screen.specs.declared.MmdhFrame.{MmdhFrame}

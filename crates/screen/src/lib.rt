@@ -4,7 +4,9 @@
 ghost use Rattle.std.specs.Prelude.{◌≡◌};
 ghost use Rattle.screen.specs.Promised.{NewSays, ConnectSays, ArriveSays, FrameSays, CutSays, LinkSays, ScrapSays, BadgeSays, WhySays, RowSays, SideSays, StripSays, PasswordSays, VersionSays};
 ghost use Rattle.feed.specs.Steps.{lent};
-ghost use Rattle.screen.specs.Plain.{yes, bit, link_of, feed_of, plain_feed, plain_given, plain_frame, line_of, plain_line, plain_heard};
+ghost use Rattle.lines.specs.Scraps.{heard_of};
+ghost use Rattle.screen.specs.Plain.{link_of, feed_of, plain_feed, plain_given, plain_frame, line_of, plain_line, plain_heard};
+ghost use Rattle.screen.specs.Calls.{plain_silent};
 
 use books::{Level, RowRead};
 use feed::{Feed, Frame, Given, Link};
@@ -114,144 +116,125 @@ pub struct MmdhStrip {
 // The request that last changed the shape of a call or struct that was there before.
 const VERSION: u64 = 6;
 
-// A number as yes or no.
-fn is_yes(n: u64) -> bool
-    ensures { result ≡ yes n }
-{
-    if n == 0 {
-        return false;
-    }
-    true
-}
-
-// Yes or no as a number.
-fn bit_of(b: bool) -> u64
-    ensures { result ≡ bit b }
-{
-    if b {
-        return 1;
-    }
-    0
-}
-
 // The kind of a connect.
+#[tactic(auto, unfolding(crate::specs::Plain::link_of))]
 fn link_of(resuming: u64) -> Link
     ensures { result ≡ link_of resuming }
 {
     if resuming == 0 {
-        return Link::Fresh;
+        Link::Fresh
+    } else {
+        Link::Resuming
     }
-    Link::Resuming
 }
 
 // The feed of some numbers.
-fn feed_of(f: MmdhFeed) -> Feed
-    ensures { result ≡ feed_of f }
-{
-    let phase = feed::phase_of(f.phase);
-    let whole = is_yes(f.whole);
-    let fresh = is_yes(f.fresh);
-    Feed {
-        phase,
-        next: f.next,
-        internal: f.internal,
-        heard: f.heard,
-        limit: f.limit,
-        whole,
-        fresh,
+impl From<MmdhFeed> for Feed {
+    ghost from_gives = { λ f r. r ≡ feed_of f };
+
+    #[tactic(auto, unfolding(crate::specs::Plain::yes))]
+    fn from(f: MmdhFeed) -> Feed {
+        Feed {
+            phase: feed::phase_of(f.phase),
+            next: f.next,
+            internal: f.internal,
+            heard: f.heard,
+            limit: f.limit,
+            whole: f.whole != 0,
+            fresh: f.fresh != 0,
+        }
     }
 }
 
 // The numbers of a feed.
-fn plain_feed(f: Feed) -> MmdhFeed
-    ensures { result ≡ plain_feed f }
-{
-    let p = f.phase;
-    let phase = feed::phase_number(p);
-    let whole = bit_of(f.whole);
-    let fresh = bit_of(f.fresh);
-    MmdhFeed {
-        phase,
-        next: f.next,
-        internal: f.internal,
-        heard: f.heard,
-        limit: f.limit,
-        whole,
-        fresh,
+impl From<Feed> for MmdhFeed {
+    ghost from_gives = { λ f r. r ≡ plain_feed f };
+
+    #[tactic(auto, unfolding(crate::specs::Plain::bit))]
+    fn from(f: Feed) -> MmdhFeed {
+        MmdhFeed {
+            phase: feed::phase_number(f.phase),
+            next: f.next,
+            internal: f.internal,
+            heard: f.heard,
+            limit: f.limit,
+            whole: f.whole.into(),
+            fresh: f.fresh.into(),
+        }
     }
 }
 
 // The numbers of what a call hands back.
-fn plain_given(g: Given) -> MmdhGiven
-    ensures { result ≡ plain_given g }
-{
-    let f = g.feed;
-    let feed = plain_feed(f);
-    MmdhGiven {
-        answer: g.answer,
-        used: g.used as u64,
-        feed,
-        dropped: g.dropped,
+impl From<Given> for MmdhGiven {
+    ghost from_gives = { λ g r. r ≡ plain_given g };
+
+    fn from(g: Given) -> MmdhGiven {
+        MmdhGiven {
+            answer: g.answer,
+            used: g.used as u64,
+            feed: g.feed.into(),
+            dropped: g.dropped,
+        }
     }
 }
 
 // The numbers of what a frame hands back.
-fn plain_frame(x: Frame) -> MmdhFrame
-    ensures { result ≡ plain_frame x }
-{
-    let f = x.feed;
-    let feed = plain_feed(f);
-    MmdhFrame {
-        answer: x.answer,
-        accepted: x.accepted,
-        used: x.used as u64,
-        feed,
-        dropped: x.dropped,
+impl From<Frame> for MmdhFrame {
+    ghost from_gives = { λ x r. r ≡ plain_frame x };
+
+    fn from(x: Frame) -> MmdhFrame {
+        MmdhFrame {
+            answer: x.answer,
+            accepted: x.accepted,
+            used: x.used as u64,
+            feed: x.feed.into(),
+            dropped: x.dropped,
+        }
     }
 }
 
 // The line of some numbers.
-fn line_of(l: MmdhLine) -> Line
-    ensures { result ≡ line_of l }
-{
-    let f = l.feed;
-    let feed = feed_of(f);
-    let dropping = is_yes(l.dropping);
-    Line {
-        feed,
-        held: l.held as usize,
-        dropping,
+impl From<MmdhLine> for Line {
+    ghost from_gives = { λ l r. r ≡ line_of l };
+
+    #[tactic(auto, unfolding(crate::specs::Plain::yes))]
+    fn from(l: MmdhLine) -> Line {
+        Line {
+            feed: l.feed.into(),
+            held: l.held as usize,
+            dropping: l.dropping != 0,
+        }
     }
 }
 
 // The numbers of a line.
-fn plain_line(l: Line) -> MmdhLine
-    ensures { result ≡ plain_line l }
-{
-    let f = l.feed;
-    let feed = plain_feed(f);
-    let dropping = bit_of(l.dropping);
-    MmdhLine {
-        feed,
-        held: l.held as u64,
-        dropping,
+impl From<Line> for MmdhLine {
+    ghost from_gives = { λ l r. r ≡ plain_line l };
+
+    #[tactic(auto, unfolding(crate::specs::Plain::bit))]
+    fn from(l: Line) -> MmdhLine {
+        MmdhLine {
+            feed: l.feed.into(),
+            held: l.held as u64,
+            dropping: l.dropping.into(),
+        }
     }
 }
 
 // The numbers of what a scrap hands back.
-fn plain_heard(x: Heard) -> MmdhHeard
-    ensures { result ≡ plain_heard x }
-{
-    let l = x.line;
-    let line = plain_line(l);
-    let said = bit_of(x.said);
-    MmdhHeard {
-        said,
-        answer: x.answer,
-        accepted: x.accepted,
-        used: x.used as u64,
-        line,
-        dropped: x.dropped,
+impl From<Heard> for MmdhHeard {
+    ghost from_gives = { λ x r. r ≡ plain_heard (heard_of x) };
+
+    #[tactic(auto, unfolding(crate::specs::Plain::bit))]
+    fn from(x: Heard) -> MmdhHeard {
+        MmdhHeard {
+            said: x.answer.is_some().into(),
+            answer: x.answer.unwrap_or(0),
+            accepted: x.accepted,
+            used: x.used as u64,
+            line: x.line.into(),
+            dropped: x.dropped,
+        }
     }
 }
 
@@ -259,14 +242,14 @@ fn plain_heard(x: Heard) -> MmdhHeard
 pub fn mmdh_new(limit: u64) -> MmdhGiven
     ensures { NewSays limit result }
 {
-    plain_given(Feed::new(limit))
+    Feed::new(limit).into()
 }
 
 // A connect: fresh where `resuming` is 0, else resuming.
 pub fn mmdh_connect(feed: MmdhFeed, resuming: u64, time: u64) -> MmdhGiven
     ensures { ConnectSays feed resuming time result }
 {
-    plain_given(feed_of(feed).connect(link_of(resuming), time))
+    Feed::from(feed).connect(link_of(resuming), time).into()
 }
 
 // An arrival of bytes.
@@ -279,10 +262,11 @@ pub fn mmdh_arrive(
 ) -> MmdhGiven
     ensures { ArriveSays feed (lent books.old strips.old) bytes.now time result (lent books.new strips.new) }
 {
-    plain_given(feed_of(feed).arrive(books, strips, bytes, time))
+    Feed::from(feed).arrive(books, strips, bytes, time).into()
 }
 
 // A whole frame's units at once, at most `allowed`. With 0 the feed comes back as it was handed in.
+#[tactic(auto, unfolding(crate::specs::Calls::frames_back))]
 pub fn mmdh_arrive_frame(
     feed: MmdhFeed,
     books: &mut [u64],
@@ -302,7 +286,9 @@ pub fn mmdh_arrive_frame(
             dropped: 0,
         };
     }
-    plain_frame(feed_of(feed).arrive_frame(books, strips, bytes, allowed, time))
+    Feed::from(feed)
+        .arrive_frame(books, strips, bytes, allowed, time)
+        .into()
 }
 
 // The two numbers and a message already cut.
@@ -317,18 +303,22 @@ pub fn mmdh_arrive_cut(
 ) -> MmdhGiven
     ensures { CutSays feed (lent books.old strips.old) seq internal message.now time result (lent books.new strips.new) }
 {
-    plain_given(feed_of(feed).arrive_cut(books, strips, seq, internal, message, time))
+    Feed::from(feed)
+        .arrive_cut(books, strips, seq, internal, message, time)
+        .into()
 }
 
 // A line's connect, with its holding buffer: fresh where `resuming` is 0, else resuming. Where it is refused the line comes back as it was handed in.
+#[tactic(auto, unfolding(crate::specs::Calls::linked_back))]
 pub fn mmdh_line_connect(line: MmdhLine, hold: &[u8], resuming: u64, time: u64) -> MmdhLinked
     ensures { LinkSays line hold.now resuming time result }
 {
-    let linked = line_of(line).connect(hold, link_of(resuming), time);
+    let linked = Line::from(line).connect(hold, link_of(resuming), time);
     if linked.answer == 0 {
-        let l = linked.line;
-        let line = plain_line(l);
-        return MmdhLinked { answer: 0, line };
+        return MmdhLinked {
+            answer: 0,
+            line: linked.line.into(),
+        };
     }
     MmdhLinked {
         answer: linked.answer,
@@ -336,7 +326,22 @@ pub fn mmdh_line_connect(line: MmdhLine, hold: &[u8], resuming: u64, time: u64) 
     }
 }
 
+// A scrap that is not looked at: the line as it was handed in, and so many of its bytes used.
+fn silent(line: MmdhLine, used: usize) -> MmdhHeard
+    ensures { result ≡ plain_silent used line }
+{
+    MmdhHeard {
+        said: 0,
+        answer: 0,
+        accepted: 0,
+        used: used as u64,
+        line,
+        dropped: 0,
+    }
+}
+
 // A scrap of a line, of which at most `allowed` units are worked on. With 0 allowed, and where the line drops, it comes back as it was handed in.
+#[tactic(auto, unfolding(crate::specs::Calls::hears_back, ground::specs::Choice::first, crate::specs::Plain::yes))]
 pub fn mmdh_line_scrap(
     line: MmdhLine,
     books: &mut [u64],
@@ -349,26 +354,14 @@ pub fn mmdh_line_scrap(
     ensures { ScrapSays line (lent books.old strips.old) hold.old scrap.now allowed time result (lent books.new strips.new) hold.new }
 {
     if allowed == 0 {
-        return MmdhHeard {
-            said: 0,
-            answer: 0,
-            accepted: 0,
-            used: 0,
-            line,
-            dropped: 0,
-        };
+        return silent(line, 0);
     }
-    if is_yes(line.dropping) {
-        return MmdhHeard {
-            said: 0,
-            answer: 0,
-            accepted: 0,
-            used: scrap.len() as u64,
-            line,
-            dropped: 0,
-        };
+    if line.dropping != 0 {
+        return silent(line, scrap.len());
     }
-    plain_heard(line_of(line).scrap(books, strips, hold, scrap, allowed, time))
+    Line::from(line)
+        .scrap(books, strips, hold, scrap, allowed, time)
+        .into()
 }
 
 // A row by code, side and rank.

@@ -13,6 +13,3 @@ pub overflow_add-result-3 : goal.overflow_add-result-3
 overflow_add-result-3 c =
     dropped_adds c.args.self (lent c.args.books.now c.args.strips.now) _ c.args.hold.now _ c.args.scrap.now _ c.once-one.result
     c.once-one.ensures c.requires.0 c.requires.2 (search rules) (search rules)
-
-pub returns : goal.returns
-returns c = search courses

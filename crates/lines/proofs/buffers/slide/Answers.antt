@@ -1,5 +1,0 @@
-use Rattle.lines.proofs.Copies.{copies}
-use Rattle.lines.proofs.buffers.slide.Goals as goal
-
-pub loop-j-preserved : goal.loop-j-preserved
-loop-j-preserved c = search copies
