@@ -1,11 +1,9 @@
 -- What the code of a strip message comes to, return by return (slots/specs/Code/Turns, specs/Table). Assumes nothing.
-use Prim.Native.Nat.{ℕ, ◌+◌, ◌-◌, ◌*◌, ◌<◌}
-use native.Mathlib.Omega.{arith}
+use Prim.Native.Nat.{ℕ, ◌<◌}
 use mathlib.Core.Path.{◌≡◌, refl, sym, ap, ◌∙◌}
 use mathlib.Core.Bool.{Bool, true, false, cond}
 use mathlib.Core.List.{List}
-use lib.ListN.{length, take, drop}
-use borrow.Rule.Slice.PartMut.{put_mid}
+use lib.ListN.{length}
 use Rattle.std.specs.Prelude.{Result, Ok, Err}
 use Rattle.ground.specs.Refusals.{refusal_no}
 use Rattle.ground.specs.declared.Refusal.{Refusal}
@@ -24,16 +22,6 @@ use Rattle.strips.specs.Code.Shapes.{sound_strip_of}
 use Rattle.strips.specs.Table.{strips, step_of}
 use Rattle.strips.specs.declared.Strip.{Strip}
 use Rattle.strips.proofs.Lists.{sized_code}
-
--- the words of a slot, and a slot written over
-pub words_at : (k : ℕ) (t w : List ℕ) → k < count_in strips (length t) → w ≡ take (strip_width * k + strip_width - strip_width * k) (drop (strip_width * k) t)
-    → w ≡ block strips k t
-words_at k t w h e = e ∙ part_is strips k t h
-
-pub put_at : (k : ℕ) (t w : List ℕ) → put_mid (strip_width * k) (strip_width * k + strip_width - strip_width * k) t w ≡ put strip_width k w t
-put_at k t w =
-    let e : strip_width * k + strip_width - strip_width * k ≡ strip_width = omega arith in
-    rw e
 
 -- by the slot that was found for the message's code
 module _ (m t : List ℕ) (c : ℕ) (f : Slot) (ec : c ≡ field 4 4 m) (e : f ≡ place_in strips c t) where

@@ -1,7 +1,6 @@
 // The lent table of strips: a message on it, clearing it, and reading a strip out of it.
 ghost use Rattle.std.specs.Prelude.{◌≡◌, true, ◌<◌, length};
 ghost use Rattle.ground.specs.Refusals.{answer_of};
-ghost use Rattle.slots.specs.Slots.{put};
 ghost use Rattle.slots.specs.Layout.{landed, count_in, block as block_of, cleared_in, turn};
 ghost use Rattle.strips.specs.Words.{strip_width, value_count, sound_strip};
 ghost use Rattle.strips.specs.Table.{strips, step_of};
@@ -12,26 +11,6 @@ ghost use Rattle.strips.specs.Code.Shapes.{Sized, PriceAt};
 use super::{STRIP_WORDS, Shown, Strip};
 use ground::Refusal;
 use slots::{MOST, Slot};
-
-// The words of slot k.
-#[tactic(auto, using(crate::proofs::Turning::words_at))]
-fn words_in(table: &[u64], k: usize) -> &[u64; STRIP_WORDS]
-    requires { k < count_in strips (length table.now) }
-    ensures { result.now ≡ block_of strips k table.now }
-{
-    let a = STRIP_WORDS * k;
-    table[a..a + STRIP_WORDS].as_array().unwrap()
-}
-
-// Slot k written over.
-#[tactic(auto, using(crate::proofs::Turning::put_at))]
-fn put(table: &mut [u64], k: usize, words: [u64; STRIP_WORDS])
-    requires { k < count_in strips (length table.old) }
-    ensures { table.new ≡ put strip_width k words table.old }
-{
-    let a = STRIP_WORDS * k;
-    table[a..a + STRIP_WORDS].copy_from_slice(&words);
-}
 
 // Every slot of the table emptied; the words behind the slots stay.
 pub fn clear(table: &mut [u64])
@@ -50,12 +29,12 @@ pub fn take(table: &mut [u64], m: &[u8]) -> Result<(), Refusal>
     let code = wire::number_in::<4>(m, wire::CODE_AT);
     match slots::find(table, MOST, STRIP_WORDS, code) {
         Slot::Held(k) => {
-            let strip = Strip::read(words_in(table, k))?;
-            put(table, k, strip.after(m).words(code));
+            let strip = Strip::read(slots::words_in(table, k))?;
+            slots::put(table, k, &strip.after(m).words(code));
             Ok(())
         }
         Slot::Free(k) => {
-            put(table, k, Strip::empty().after(m).words(code));
+            slots::put(table, k, &Strip::empty().after(m).words(code));
             Ok(())
         }
         Slot::Full => Err(Refusal::Full),
@@ -110,6 +89,6 @@ pub fn read_strip(table: &[u64], code: u64) -> Result<Shown, Refusal>
     let Slot::Held(k) = slots::find(table, MOST, STRIP_WORDS, code) else {
         return Err(Refusal::Missing);
     };
-    let strip = Strip::read(words_in(table, k))?;
+    let strip = Strip::read(slots::words_in(table, k))?;
     Ok(strip.shown())
 }
