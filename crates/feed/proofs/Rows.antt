@@ -159,12 +159,12 @@ module _ (f : Feed) (b t m : List ℕ) (n q i : ℕ) (k : Kind) (a : k ≡ kind_
         met (rw h) r j (lent u t) (ap (λ (y : Landed). y.answer) w ∙ rw h)
         (ap (λ (y : Landed). lent y.words t) w ∙ rw h (books_if (eqb (book_answer n m b) 0) (books_after n m b) b t)) (v ∙ rw h) (rw l at k)
 
-    pub strip_met : (r : ℕ) (u : List ℕ) → d ≡ Strip → landed r u ≡ turn strips (step_of m) t
+    pub strip_met : (r a : ℕ) (u : List ℕ) → d ≡ Strip → r ≡ a → landed a u ≡ turn strips (step_of m) t
         → g ≡ answered r (cond (accepted r) (advanced n (counted (Market Other) i f)) (in_phase Lost (whole_is false f)))
         → out_of g (lent b u) ≡ on_tables (state_of f (lent b t)) (Cut q i m n)
     unfolding tabled unsound_for no_slot_for misfits_for tables_after drops answer misfit strip.unsound strip.no_slot strips_after first
-    strip_met r u h w l =
-        met (rw h) r 0 (lent b u) (ap (λ (y : Landed). y.answer) w ∙ rw h)
+    strip_met r a u h z w l =
+        met (rw h) r 0 (lent b u) (z ∙ ap (λ (y : Landed). y.answer) w ∙ rw h)
         (ap (λ (y : Landed). lent b y.words) w ∙ rw h (strips_if (eqb (answer strips (step_of m) t) 0) b (strips_after m t) t))
         (rw h (sym (cond_same (eqb (answer strips (step_of m) t) 0) 0))) l
 

@@ -1,5 +1,6 @@
 // Arrivals of bytes and of messages already cut: judge, then act on the tables.
 ghost use Rattle.std.specs.Prelude.{◌≡◌, false, cond, ◌≤◌};
+ghost use Rattle.ground.specs.Refusals.{answer_of};
 ghost use Rattle.feed.specs.Messages.{kind as kind_in, wrong_size};
 ghost use Rattle.feed.specs.Feeds.{in_phase, whole_is};
 ghost use Rattle.feed.specs.Events.{cleared_tables, Cut};
@@ -10,6 +11,7 @@ ghost use Rattle.feed.specs.Code.Judging.{answered, on_tables, unmet as unmet_by
 
 use super::messages::kind_in;
 use super::{Answer, Datum, Feed, Given, Kind, Phase};
+use ground::Refusal;
 use wire::{Cursor, Unit};
 
 // Every slot of both tables emptied.
@@ -18,6 +20,16 @@ fn clear(books: &mut [u64], strips: &mut [u64])
 {
     books::clear(books);
     strips::clear(strips);
+}
+
+// The number of what a table took or refused.
+fn number_of(taken: Result<(), Refusal>) -> u64
+    ensures { result ≡ answer_of taken }
+{
+    match taken {
+        Ok(()) => 0,
+        Err(refusal) => u64::from(refusal),
+    }
 }
 
 // What arrives, and all that is written.
@@ -60,7 +72,11 @@ impl Feed {
                     self.market(told.answer, internal, time)
                         .dropping(told.dropped)
                 }
-                Datum::Strip => self.market(strips::take(strips, message), internal, time),
+                Datum::Strip => self.market(
+                    number_of(strips::take(strips, message)),
+                    internal,
+                    time,
+                ),
                 Datum::Other => self.numbered(internal, time).kept(2),
             },
         }

@@ -5,8 +5,9 @@ ghost use Rattle.std.specs.Prelude.{◌≡◌};
 ghost use Rattle.screen.specs.Promised.{NewSays, ConnectSays, ArriveSays, FrameSays, CutSays, LinkSays, ScrapSays, BadgeSays, WhySays, RowSays, SideSays, StripSays, PasswordSays, VersionSays};
 ghost use Rattle.feed.specs.Steps.{lent};
 ghost use Rattle.lines.specs.Scraps.{heard_of};
-ghost use Rattle.screen.specs.Plain.{link_of, feed_of, plain_feed, plain_given, plain_frame, line_of, plain_line, plain_heard};
+ghost use Rattle.screen.specs.Plain.{link_of, feed_of, plain_feed, plain_given, plain_frame, line_of, plain_line, plain_heard, plain_strip};
 ghost use Rattle.screen.specs.Calls.{plain_silent};
+ghost use Rattle.strips.specs.Reading.{strip_refused};
 
 use books::{Level, RowRead};
 use feed::{Feed, Frame, Given, Link};
@@ -390,23 +391,44 @@ pub fn mmdh_read_side(table: &[u64], code: u64, side: u64) -> MmdhSide
     }
 }
 
+// A strip that is not given: the answer alone.
+fn no_strip(answer: u64) -> MmdhStrip
+    ensures { result ≡ plain_strip (strip_refused answer) }
+{
+    MmdhStrip {
+        answer,
+        flags: 0,
+        nominal: 0,
+        iep: 0,
+        iev: 0,
+        reference: 0,
+        lower: 0,
+        upper: 0,
+        direction: 0,
+        imbalance: 0,
+        closing: 0,
+    }
+}
+
 // A strip by its code.
 pub fn mmdh_read_strip(strips: &[u64], code: u64) -> MmdhStrip
     ensures { StripSays strips.now code result }
 {
-    let strip = strips::read_strip(strips, code);
-    MmdhStrip {
-        answer: strip.answer,
-        flags: strip.flags,
-        nominal: strip.nominal,
-        iep: strip.iep,
-        iev: strip.iev,
-        reference: strip.reference,
-        lower: strip.lower,
-        upper: strip.upper,
-        direction: strip.direction,
-        imbalance: strip.imbalance,
-        closing: strip.closing,
+    match strips::read_strip(strips, code) {
+        Ok(shown) => MmdhStrip {
+            answer: 0,
+            flags: shown.flags,
+            nominal: shown.nominal,
+            iep: shown.iep,
+            iev: shown.iev,
+            reference: shown.reference,
+            lower: shown.lower,
+            upper: shown.upper,
+            direction: shown.direction,
+            imbalance: shown.imbalance,
+            closing: shown.closing,
+        },
+        Err(refusal) => no_strip(u64::from(refusal)),
     }
 }
 

@@ -1,7 +1,7 @@
 -- What the functions' proofs take: the two loops, and the answers of `find`. Assumes nothing.
 use mathlib.Core.Path.{◌≡◌, refl, ◌∙◌}
-use mathlib.Core.List.{List, ◌++◌}
-use Prim.Native.Nat.{ℕ, min, ◌+◌, ◌*◌, ◌/◌, ◌≤◌, ◌<◌}
+use mathlib.Core.List.{List, [], ◌++◌}
+use Prim.Native.Nat.{ℕ, min, ◌+◌, ◌-◌, ◌*◌, ◌/◌, ◌≤◌, ◌<◌}
 use native.Mathlib.Nat.{min_comm}
 use native.Mathlib.Omega.{arith}
 use lib.Dec.{ltb}
@@ -16,7 +16,7 @@ use Rattle.slots.specs.declared.Slot.{Slot}
 use Rattle.slots.specs.declared.Slot.TheVariants.{Held, Free, Full}
 use Rattle.std.specs.Prelude.{Some, None}
 use Rattle.std.specs.declared.option.Option.{Option as MayBe}
-use Rattle.slots.proofs.Blocks.{slots_fit, slot_fits, length_blocks}
+use Rattle.slots.proofs.Blocks.{slots_fit, slot_fits, length_blocks, block_at}
 use Rattle.slots.proofs.Lookup.{lowest_words}
 
 -- what a search has seen: no slot before slot k of n has the code
@@ -94,3 +94,9 @@ unfolding cleared
 zeroed t zs most w n e f =
     let l : w * n ≤ length t = rw e (slots_fit most w (length t)) in
     rw (f, length-take-le (w * n) t l, e) refl
+
+-- the words of a slot
+pub words_at : (most w k : ℕ) (t u : List ℕ) → k < slot_count most w (length t) → u ≡ take (w * k + w - w * k) (drop (w * k) t) → u ≡ get_or (slots_of most w t) k []
+words_at most w k t u h e =
+    let s : w * k + w - w * k ≡ w = omega arith in
+    e ∙ rw (s, block_at w (slot_count most w (length t)) k t h)

@@ -1,8 +1,8 @@
 // A lent table of 64-bit words as slots of some width (document 01, "The book table"): word 0 of a slot is its code, 0 where it is free.
 #![tactic(auto)]
 
-ghost use Rattle.std.specs.Prelude.{◌≡◌, ◌<◌};
-ghost use Rattle.slots.specs.Slots.{slots_of, code_of, place, cleared};
+ghost use Rattle.std.specs.Prelude.{◌≡◌, ◌<◌, [], length, get_or};
+ghost use Rattle.slots.specs.Slots.{max_slots, slot_count, slots_of, code_of, place, put, cleared};
 ghost use Rattle.slots.specs.Code.Turns.{found};
 
 // "at most 4,096": how many slots a table of books has at most.
@@ -51,4 +51,23 @@ pub fn clear(table: &mut [u64], most: usize, width: usize)
 {
     let n = (table.len() / width).min(most);
     table[..width * n].fill(0);
+}
+
+// The words of slot k.
+#[tactic(auto, using(crate::proofs::Cases::words_at))]
+pub fn words_in<const W: usize>(table: &[u64], k: usize) -> &[u64; W]
+    requires { k < slot_count max_slots W (length table.now) }
+    ensures { result.now ≡ get_or (slots_of max_slots W table.now) k [] }
+{
+    let a = W * k;
+    table[a..a + W].as_array().unwrap()
+}
+
+// Slot k written over.
+pub fn put<const W: usize>(table: &mut [u64], k: usize, words: &[u64; W])
+    requires { k < slot_count max_slots W (length table.old) }
+    ensures { table.new ≡ put W k words.now table.old }
+{
+    let a = W * k;
+    table[a..a + W].copy_from_slice(words);
 }
