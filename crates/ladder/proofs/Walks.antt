@@ -1,7 +1,7 @@
 -- Entries as they are read, judged and walked over (specs/Message, specs/Walk). Assumes nothing.
 use Prim.Native.Nat.{ℕ, zero, suc, ◌+◌, ◌-◌, ◌*◌, ◌≤◌, ◌<◌}
 use mathlib.Core.Path.{◌≡◌, refl, ap, sym, ◌∙◌, subst}
-use mathlib.Core.Bool.{Bool, true, false, cond}
+use mathlib.Core.Bool.{Bool, true, false, cond, ◌&&◌}
 use mathlib.Core.List.{List, [], ◌∷◌, ◌++◌}
 use mathlib.Core.Option.{Option, none, some, map, bind}
 use native.Mathlib.Omega.{arith}
@@ -10,6 +10,7 @@ use lib.ListN.{length, take, drop, get_or, set, length-set, length-append, lengt
 use lib.Seq.{get_or-set_same, get_or-set_other}
 use borrow.Author.Rules.{rules}
 use borrow.Author.Tests.{le-leb, lt-leb, eq-eqb, ne_eqb}
+use Rattle.std.specs.List.{list_all, range_with_len}
 use Rattle.ground.specs.Choice.{one_of, pick, all}
 use Rattle.wire.specs.Number.{field, biased}
 use Rattle.ground.proofs.Bools.{cond_same, split}
@@ -79,6 +80,16 @@ pub listed_rest : (e : Entry) → (e.action ≡ 74 → ⊥) → e.action ≤ 2 �
 unfolding listed_entry listed_rank
 listed_rest e z a b c = rw (ne_eqb e.action 74 z, action_known e.action a, side_known e.side b, le-leb 1 e.level c)
 
+-- the entries in 24-byte steps, each listed
+pub each_listed : (a n : ℕ) (s : List ℕ) → list_all (λ i. listed_entry (entry_at (entry_size * i) s)) (range_with_len a n) ≡ all listed_entry (entries_from n (entry_size * a) s)
+unfolding all entries_from
+each_listed a zero s = refl
+each_listed a (suc n) s =
+    let t : entry_size * (a + 1) ≡ entry_size * a + entry_size = omega arith in
+    ap (λ (b : Bool). listed_entry (entry_at (entry_size * a) s) && b) (each_listed (a + 1) n s ∙ ap (λ (at : ℕ). all listed_entry (entries_from n at s)) t)
+
+pub ruleset listing = (rules, entry_made, entry_read, listed_clear, unlisted_action, unlisted_side, unlisted_zero, listed_rest)
+
 -- the entries from the i-th on
 pub rest : ℕ → ℕ → List ℕ → List Entry
 rest n i s = entries_from (n - i) (entry_size * i) s
@@ -101,33 +112,6 @@ unfolding rest
 rest_all n s =
     let e : n - 0 ≡ n = omega arith in
     ap (λ (k : ℕ). entries_from k 0 s) e
-
--- all entries before the i-th are listed
-pub record Listing (n : ℕ) (s : List ℕ) (i : ℕ) : Type 0 where
-  pub upto : i ≤ n
-  pub room : entry_size * n ≤ length s
-  pub same : all listed_entry (rest n i s) ≡ all listed_entry (entries_from n 0 s)
-
-pub list_starts : (n : ℕ) (s : List ℕ) → entry_size * n ≤ length s → Listing n s 0
-list_starts n s h = record { upto = omega arith; room = h; same = ap (all listed_entry) (rest_all n s) }
-
-pub list_goes : (n : ℕ) (s : List ℕ) (i : ℕ) (e : Entry) (b : Bool) → Listing n s i → i < n → e ≡ entry_at (entry_size * i) s → b ≡ listed_entry e → b ≡ true → Listing n s (i + 1)
-unfolding all
-list_goes n s i e b p h q t y =
-    let yes : listed_entry (entry_at (entry_size * i) s) ≡ true = ap listed_entry (sym q) ∙ sym t ∙ y in
-    record { upto = omega arith; room = p.room; same = sym (ap (all listed_entry) (rest_more n i s h) ∙ rw yes) ∙ p.same }
-
-pub list_stops : (n : ℕ) (s : List ℕ) (i : ℕ) (e : Entry) (b : Bool) → Listing n s i → i < n → e ≡ entry_at (entry_size * i) s → b ≡ listed_entry e → b ≡ false → false ≡ all listed_entry (entries_from n 0 s)
-unfolding all
-list_stops n s i e b p h q t y =
-    let no : listed_entry (entry_at (entry_size * i) s) ≡ false = ap listed_entry (sym q) ∙ sym t ∙ y in
-    sym (sym p.same ∙ ap (all listed_entry) (rest_more n i s h) ∙ rw no)
-
-pub list_ends : (n : ℕ) (s : List ℕ) (i : ℕ) → Listing n s i → n ≤ i → true ≡ all listed_entry (entries_from n 0 s)
-unfolding all
-list_ends n s i p h = sym (ap (all listed_entry) (rest_none n i s h)) ∙ p.same
-
-pub ruleset listing = (rules, entry_made, entry_read, listed_clear, unlisted_action, unlisted_side, unlisted_zero, listed_rest, list_starts, list_goes, list_stops, list_ends)
 
 -- at most ten rows stay at most ten
 pub after_few : (e : Entry) (s : List Row) → length s ≤ depth → length (rows_after e s) ≤ depth

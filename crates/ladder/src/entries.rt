@@ -62,14 +62,5 @@ pub fn all_listed(part: &[u8], n: usize) -> bool
     requires { entry_size * n ≤ length part.now }
     ensures { result ≡ all listed_entry (entries_from n 0 part.now) }
 {
-    let mut i = 0;
-    while i < n {
-        let e = entry_at(part, ENTRY_BYTES * i);
-        if is_listed(e) {
-            i += 1;
-        } else {
-            return false;
-        }
-    }
-    true
+    (0..n).all(|i| is_listed(entry_at(part, ENTRY_BYTES * i)))
 }

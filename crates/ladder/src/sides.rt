@@ -52,31 +52,17 @@ fn insert_row(rows: [Row; DEPTH], at: usize, row: Row) -> [Row; DEPTH]
     requires { at < depth }
     ensures { result ≡ new_rows (at + 1) row rows }
 {
-    let mut next = rows;
-    let mut above = zero_row();
-    let mut i = 0;
-    while i < DEPTH {
-        let here = rows[i];
-        let stays = row_if(i == at, row, here);
-        next[i] = row_if(at < i, above, stays);
-        above = here;
-        i += 1;
-    }
-    next
+    std::array::from_fn(|i| {
+        let stays = row_if(i == at, row, rows[i]);
+        row_if(at < i, rows[i.saturating_sub(1)], stays)
+    })
 }
 
 // A row replaced by another.
 fn set_row(rows: [Row; DEPTH], at: usize, row: Row) -> [Row; DEPTH]
     ensures { result ≡ set rows at row }
 {
-    let mut next = rows;
-    let mut i = 0;
-    while i < DEPTH {
-        let here = rows[i];
-        next[i] = row_if(i == at, row, here);
-        i += 1;
-    }
-    next
+    std::array::from_fn(|i| row_if(i == at, row, rows[i]))
 }
 
 // A row taken out: the lower rows move up, and behind them comes a zero row.
@@ -84,16 +70,10 @@ fn drop_row(rows: [Row; DEPTH], at: usize) -> [Row; DEPTH]
     requires { at < depth }
     ensures { result ≡ delete_rows (at + 1) rows ++ (no_row ∷ []) }
 {
-    let mut next = rows;
-    let mut i = 0;
-    while i < LAST {
-        let here = rows[i];
-        let below = rows[i + 1];
-        next[i] = row_if(at <= i, below, here);
-        i += 1;
-    }
-    next[LAST] = zero_row();
-    next
+    std::array::from_fn(|i| {
+        let below = if i < LAST { rows[i + 1] } else { zero_row() };
+        row_if(at <= i, below, rows[i])
+    })
 }
 
 // The ten rows of a side after an entry that is new, a change, or else a delete: the one application, for either side.
@@ -117,7 +97,7 @@ fn one_more(n: usize) -> usize
     requires { n ≤ depth }
     ensures { result ≡ min depth (n + 1) }
 {
-    if n < DEPTH { n + 1 } else { DEPTH }
+    DEPTH.min(n + 1)
 }
 
 // The count of a side of n rows after such an entry.

@@ -16,7 +16,7 @@ use super::{BID, CLEAR, DEPTH, ENTRY_BYTES, OFFER, Row, Walked, Way};
 fn place_above(level: usize) -> usize
     ensures { result ≡ level - 2 }
 {
-    if level < 2 { 0 } else { level - 2 }
+    level.saturating_sub(2)
 }
 
 // The side that an entry is for: 0 the bids, else the offers.

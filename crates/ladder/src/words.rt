@@ -30,14 +30,7 @@ fn load_side(block: &[u64], base: usize) -> [Row; DEPTH]
     requires { base + side_width ≤ length block.now }
     ensures { result ≡ rows_from base block.now }
 {
-    let none = zero_row();
-    let mut rows = [none; DEPTH];
-    let mut k = 0;
-    while k < DEPTH {
-        rows[k] = row_at(block, base + ROW_WORDS * k);
-        k += 1;
-    }
-    rows
+    std::array::from_fn(|k| row_at(block, base + ROW_WORDS * k))
 }
 
 // The ten rows of each side of a book.
@@ -56,12 +49,10 @@ fn in_order(block: &[u64], base: usize, way: Way) -> u64
     ensures { result ≡ in_order way (rows_from base block.now) }
 {
     let mut found = DEPTH as u64;
-    let mut i = LAST;
-    while 0 < i {
+    for i in (1..DEPTH).rev() {
         let at = base + ROW_WORDS * i;
         let fine = is_better(way, block[at - ROW_WORDS], block[at]);
         found = word_if(fine, found, i as u64);
-        i -= 1;
     }
     found
 }
@@ -73,14 +64,11 @@ fn words_sound(block: &[u64], base: usize, n: u64) -> bool
 {
     let mut used = 0;
     let mut lows = 0;
-    let mut i = 0;
-    while i < DEPTH {
+    for i in 0..DEPTH {
         let row = row_at(block, base + ROW_WORDS * i);
         let low = row.price | row.orders;
-        let any = low | row.quantity;
-        lows = lows | low;
-        i += 1;
-        used = word_if(any == 0, used, i as u64);
+        lows |= low;
+        used = word_if(low | row.quantity == 0, used, i as u64 + 1);
     }
     if n < used {
         return false;
@@ -141,11 +129,8 @@ fn write_side(block: &mut [u64], base: usize, rows: [Row; DEPTH])
     requires { base + side_width ≤ length block.old }
     ensures { block.new ≡ overlay base (flat (map row_words rows)) block.old }
 {
-    let mut i = 0;
-    while i < DEPTH {
-        let row = rows[i];
-        write_row(block, base + ROW_WORDS * i, row);
-        i += 1;
+    for (i, row) in rows.iter().enumerate() {
+        write_row(block, base + ROW_WORDS * i, *row);
     }
 }
 
