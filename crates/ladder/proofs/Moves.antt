@@ -1,7 +1,7 @@
 -- Ten rows after an entry, each chosen by its place (new_rows, delete_rows of specs/Sides, ten_after of specs/Arrays). Assumes nothing.
-use Prim.Native.Nat.{ℕ, zero, suc, ◌+◌, ◌-◌, ◌≤◌, ◌<◌, min}
+use Prim.Native.Nat.{ℕ, zero, suc, ◌+◌, ◌-◌, ◌<◌}
 use mathlib.Core.Path.{◌≡◌, sym, ◌∙◌}
-use mathlib.Core.Bool.{Bool, true, false, cond, ◌||◌}
+use mathlib.Core.Bool.{cond}
 use mathlib.Core.List.{List, [], ◌∷◌, ◌++◌}
 use native.Mathlib.Decide.{dec_lt}
 use native.Mathlib.Numerals.{add-one}
@@ -9,28 +9,11 @@ use native.Mathlib.Omega.{arith}
 use lib.Dec.{ltb, leb, eqb}
 use lib.ListN.{length, take, get_or, set, length-append, get_or-append}
 use lib.Seq.{get_or-take, get_or_at, get_or-set_same, get_or-set_other, length-take-le}
-use borrow.Author.Rules.{rules}
-use borrow.Author.Tests.{lt-ltb, le-ltb, le-leb, lt-leb, leb-true, eq-eqb, ne_eqb}
-use Rattle.ground.specs.Choice.{pick}
+use borrow.Author.Tests.{lt-ltb, le-ltb, le-leb, lt-leb, eq-eqb, ne_eqb}
 use Rattle.ladder.specs.Sides.{no_row, new_rows, delete_rows}
-use Rattle.ladder.specs.Words.{no_rows}
-use Rattle.ladder.specs.Code.Arrays.{empty_rows, ten_after, count_after}
 use Rattle.ladder.specs.declared.Row.{Row}
-use Rattle.ladder.specs.declared.Entry.{Entry}
 use Rattle.ladder.proofs.Shift.{ins, del, length_ins, length_del, get_d_ins, get_d_before, get_d_after, get_d_del}
 use Rattle.ladder.specs.Message.{depth}
-
--- no rows on either side
-pub no_rows_lem : (r : Row) → r ≡ no_row
-    → ◌≡◌ {A = List (List Row)} ((r ∷ r ∷ r ∷ r ∷ r ∷ r ∷ r ∷ r ∷ r ∷ r ∷ []) ∷ (r ∷ r ∷ r ∷ r ∷ r ∷ r ∷ r ∷ r ∷ r ∷ r ∷ []) ∷ []) empty_rows
-unfolding no_rows
-no_rows_lem r e = rw e
-
--- a row chosen word by word
-pub row_chosen : (c : Bool) (a b : Row) (p q o : ℕ) → p ≡ cond c a.price b.price → q ≡ cond c a.quantity b.quantity → o ≡ cond c a.orders b.orders
-    → ◌≡◌ {A = Row} (record { price = p; quantity = q; orders = o }) (cond c a b)
-row_chosen true a b p q o x y z = λ i. record { price = x i; quantity = y i; orders = z i }
-row_chosen false a b p q o x y z = λ i. record { price = x i; quantity = y i; orders = z i }
 
 module _ (rows : List Row) (ten : length rows ≡ depth) (at : ℕ) where
   -- ten rows with one put in, and row i of them
@@ -103,50 +86,3 @@ module _ (rows : List Row) (ten : length rows ≡ depth) (at : ℕ) where
       go (no d) =
           let e : i ≡ 9 = omega arith in
           rw (e, le-leb at 9 (omega arith)) (sym (gone_last h))
-
--- ten rows after an entry, by its action
-pub after_new : (e : Entry) (rows r : List Row) → (1 ≤ e.level) × (e.level ≤ depth) → e.action ≡ 0 → r ≡ new_rows (e.level - 1 + 1) e.row rows → r ≡ ten_after e rows
-unfolding ten_after pick
-after_new e rows r p a q =
-    let k : e.level - 1 + 1 ≡ e.level = omega (arith, p.0) in
-    q ∙ rw (k, a)
-
-pub after_change : (e : Entry) (rows r : List Row) → e.action ≡ 1 → r ≡ set rows (e.level - 1) e.row → r ≡ ten_after e rows
-unfolding ten_after pick
-after_change e rows r a q = q ∙ rw a
-
-pub after_delete : (e : Entry) (rows r : List Row) → (1 ≤ e.level) × (e.level ≤ depth) → (e.action ≡ 0 → ⊥) → (e.action ≡ 1 → ⊥)
-    → r ≡ delete_rows (e.level - 1 + 1) rows ++ (no_row ∷ []) → r ≡ ten_after e rows
-unfolding ten_after pick
-after_delete e rows r p a b q =
-    let k : e.level - 1 + 1 ≡ e.level = omega (arith, p.0) in
-    q ∙ rw (k, ne_eqb e.action 0 a, ne_eqb e.action 1 b)
-
--- a count after an entry, by its action
-pub count_new : (n action r : ℕ) → action ≡ 0 → r ≡ min depth (n + 1) → r ≡ count_after action n
-unfolding count_after pick
-count_new n action r a q = q ∙ rw a
-
-pub count_change : (n action : ℕ) → action ≡ 1 → n ≡ count_after action n
-unfolding count_after pick
-count_change n action a = rw a
-
-pub count_room : (n action : ℕ) → (eqb action 0 || leb 1 n) ≡ true → (action ≡ 0 → ⊥) → 1 ≤ n
-count_room n action p a = leb-true 1 n (rw (ne_eqb action 0 a) at p)
-
-pub count_delete : (n action : ℕ) → (action ≡ 0 → ⊥) → (action ≡ 1 → ⊥) → n - 1 ≡ count_after action n
-unfolding count_after pick
-count_delete n action a b = rw (ne_eqb action 0 a, ne_eqb action 1 b)
-
-pub ruleset moves = (
-  rules,
-  no_rows_lem,
-  row_chosen,
-  after_new,
-  after_change,
-  after_delete,
-  count_new,
-  count_change,
-  count_room,
-  count_delete,
-)
