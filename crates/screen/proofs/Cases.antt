@@ -22,8 +22,8 @@ use Rattle.lines.specs.declared.Linked.{Linked}
 use Rattle.lines.specs.declared.Heard.{Heard}
 use Rattle.screen.specs.Plain.{yes, bit, link_of, feed_of, plain_feed, plain_given, plain_out, plain_outcome, plain_frame, plain_framed_of, plain_framed, line_of, plain_line, plain_heard, plain_hearing, plain_hears, plain_row, plain_side, plain_strip}
 use Rattle.screen.specs.Calls.{hands_back, frames_back, Connects, links_back, linked_back, hears_back}
-use Rattle.books.specs.declared.RowRead.{RowRead}
-use Rattle.books.specs.declared.SideRead.{SideRead}
+use Rattle.books.specs.Reading.{RowRead}
+use Rattle.books.specs.Reading.{SideRead}
 use Rattle.strips.specs.declared.StripRead.{StripRead}
 use Rattle.screen.specs.declared.MmdhRow.{MmdhRow}
 use Rattle.screen.specs.declared.MmdhSide.{MmdhSide}
