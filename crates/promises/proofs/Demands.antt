@@ -31,7 +31,7 @@ use Rattle.strips.specs.Words.{empty_strip}
 use Rattle.strips.specs.Reading as reading
 use Rattle.strips.specs.Reading.{read_strip}
 use Rattle.strips.specs.declared.Strip.{Strip as StripOf}
-use Rattle.strips.specs.declared.StripRead.{StripRead}
+use Rattle.strips.specs.Reading.{StripRead}
 use Rattle.strips.proofs.Lawful.{lawful}
 use Rattle.strips.proofs.Keeps.{step_fits, step_modest}
 use Rattle.feed.specs.Messages.{kind, on_market, tabled, listed as listed_of}
