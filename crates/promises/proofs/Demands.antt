@@ -24,7 +24,7 @@ use Rattle.ladder.proofs.Orders.{price_once}
 use Rattle.ladder.specs.Walk.{Book, empty_book, book_after}
 use Rattle.ladder.specs.declared.Way.TheVariants.{Bid, Offer}
 use Rattle.books.specs.Reading.{read_answer, read_row}
-use Rattle.books.specs.declared.RowRead.{RowRead}
+use Rattle.books.specs.Reading.{RowRead}
 use Rattle.strips.specs.Table as strip
 use Rattle.strips.specs.Table.{strips, strips_after}
 use Rattle.strips.specs.Words.{empty_strip}

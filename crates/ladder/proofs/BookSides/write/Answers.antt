@@ -1,5 +1,5 @@
 use Rattle.ladder.proofs.Writes.{writes}
-use Rattle.ladder.proofs.words.write_book.Goals as goal
+use Rattle.ladder.proofs.BookSides.write.Goals as goal
 
 pub returns : goal.returns
 returns c = search writes
