@@ -5,7 +5,6 @@ ghost use Rattle.feed.specs.Answers.{last_seq_num};
 ghost use Rattle.feed.specs.Steps.{enter_live, advanced as advanced_at, counted, accepted};
 ghost use Rattle.feed.specs.Code.Judging.{answered, used_is, dropped_is};
 
-use super::phases::is_phase;
 use super::{Datum, Feed, Given, Kind, Phase};
 
 // The feed with one thing changed, and the feed with an answer.
@@ -14,15 +13,7 @@ impl Feed {
     pub(crate) fn in_phase(self, phase: Phase) -> Feed
         ensures { result ≡ in_phase phase self }
     {
-        Feed {
-            phase,
-            next: self.next,
-            internal: self.internal,
-            heard: self.heard,
-            limit: self.limit,
-            whole: self.whole,
-            fresh: self.fresh,
-        }
+        Feed { phase, ..self }
     }
 
     // An answer with no bytes used and no row dropped, and this feed after it.
@@ -48,18 +39,22 @@ impl Feed {
     pub(crate) fn spoilt(self, answer: u64) -> Given
         ensures { result ≡ answered answer (in_phase Phase.Lost (whole_is false self)) }
     {
-        let mut f = self.in_phase(Phase::Lost);
-        f.whole = false;
-        f.kept(answer)
+        Feed {
+            phase: Phase::Lost,
+            whole: false,
+            ..self
+        }
+        .kept(answer)
     }
 
     // The last heard time is set.
     pub(crate) fn heard_at(self, time: u64) -> Feed
         ensures { result ≡ heard_at time self }
     {
-        let mut feed = self;
-        feed.heard = time;
-        feed
+        Feed {
+            heard: time,
+            ..self
+        }
     }
 
     // The next SeqNum advances, and the message is heard.
@@ -67,76 +62,76 @@ impl Feed {
         requires { self.next ≤ last_seq_num }
         ensures { result ≡ advanced_at time self }
     {
-        let mut f = self;
-        f.next = self.next + 1;
-        f.heard = time;
-        f
+        Feed {
+            next: self.next + 1,
+            heard: time,
+            ..self
+        }
     }
 
     // The same for a market message, and in Live its internal number becomes the last.
+    #[tactic(auto, unfolding(crate::specs::Steps::counted, crate::specs::Messages::market, crate::specs::Messages::on_market, crate::specs::Feeds::is))]
     pub(crate) fn numbered(self, internal: u32, time: u64) -> Feed
         requires { self.next ≤ last_seq_num }
         ensures { result ≡ advanced_at time (counted (Kind.Market Datum.Other) internal self) }
     {
-        let phase = self.phase;
-        let mut f = self.advanced(time);
-        if is_phase(phase, Phase::Live) {
-            f.internal = internal as u64;
-            return f;
+        let feed = self.advanced(time);
+        if self.phase == Phase::Live {
+            return Feed {
+                internal: internal.into(),
+                ..feed
+            };
         }
-        f
+        feed
     }
 
     // Live, and whole.
     pub(crate) fn live(self) -> Feed
         ensures { result ≡ enter_live self }
     {
-        let mut f = self.in_phase(Phase::Live);
-        f.whole = true;
-        f
+        Feed {
+            phase: Phase::Live,
+            whole: true,
+            ..self
+        }
     }
 
     // A refresh is complete: Live, and the number becomes the last internal number.
     pub(crate) fn completed(self, internal: u64) -> Feed
         ensures { result ≡ enter_live (internal_is internal self) }
     {
-        let mut f = self.live();
-        f.internal = internal;
-        f
+        Feed {
+            internal,
+            ..self.live()
+        }
     }
 
     // What clearing makes of the feed: the last internal number is 0, and it is not whole.
     pub(crate) fn forgotten(self) -> Feed
         ensures { result ≡ internal_is 0 (whole_is false self) }
     {
-        let mut f = self;
-        f.internal = 0;
-        f.whole = false;
-        f
+        Feed {
+            internal: 0,
+            whole: false,
+            ..self
+        }
     }
 }
 
 // What a call hands back, with the bytes it used and the rows it dropped.
 impl Given {
     // The rows dropped.
-    pub(crate) fn dropping(self, n: u64) -> Given
-        ensures { result ≡ dropped_is n self }
+    pub(crate) fn dropping(self, dropped: u64) -> Given
+        ensures { result ≡ dropped_is dropped self }
     {
-        let mut g = self;
-        g.dropped = n;
-        g
+        Given { dropped, ..self }
     }
 
     // The bytes used, where n are offered: all of them after answers 0, 1 and 2, and none after another.
     pub(crate) fn using(self, n: usize) -> Given
         ensures { result ≡ used_is (cond (accepted self.answer) n 0) self }
     {
-        let mut g = self;
-        if g.answer <= 2 {
-            g.used = n;
-            return g;
-        }
-        g.used = 0;
-        g
+        let used = if self.answer <= 2 { n } else { 0 };
+        Given { used, ..self }
     }
 }

@@ -4,20 +4,9 @@ ghost use Rattle.feed.specs.Feeds.{new_feed};
 ghost use Rattle.feed.specs.Events.{Linked};
 ghost use Rattle.feed.specs.Promised.{NewSays, ConnectSays, BadgeSays};
 ghost use Rattle.feed.specs.Answers.{lacks_need};
-ghost use Rattle.feed.specs.Steps.{is_fresh};
 
 use super::badges::{badge_at, is_limit};
 use super::{Badge, Feed, Given, Link, Phase};
-
-// Whether a connect is fresh.
-fn is_fresh(link: Link) -> bool
-    ensures { result ≡ is_fresh link }
-{
-    match link {
-        Link::Fresh => true,
-        Link::Resuming => false,
-    }
-}
 
 // A new feed with a limit.
 fn idle(limit: u64) -> Feed
@@ -37,6 +26,7 @@ fn idle(limit: u64) -> Feed
 // New feeds, connects and the badge.
 impl Feed {
     // A new feed with a silence limit: 19 where the limit is outside 1 to 600,000.
+    #[tactic(auto, unfolding(crate::specs::Feeds::new_given, ground::specs::Choice::first))]
     pub fn new(limit: u64) -> Given
         ensures { NewSays limit result }
     {
@@ -47,21 +37,15 @@ impl Feed {
     }
 
     // Whether a connect is resuming without its need.
+    #[tactic(auto, unfolding(crate::specs::Answers::lacks_need))]
     fn lacks_need(self, link: Link) -> bool
         ensures { result ≡ lacks_need self (Linked link) }
     {
-        match link {
-            Link::Fresh => false,
-            Link::Resuming => {
-                if self.whole {
-                    return self.internal < 1;
-                }
-                true
-            }
-        }
+        link == Link::Resuming && !(self.whole && 1 <= self.internal)
     }
 
     // A connect, fresh or resuming.
+    #[tactic(auto, unfolding(crate::specs::Steps::outcome, crate::specs::Steps::handed, ground::specs::Choice::first, crate::specs::Answers::tests, crate::specs::Answers::line_tests, crate::specs::Answers::table_tests, crate::specs::Events::time_of, crate::specs::Events::news, crate::specs::Events::on_message, crate::specs::Answers::arrives, crate::specs::Answers::is_too_long, crate::specs::Answers::is_more, crate::specs::Answers::number, crate::specs::Steps::act, crate::specs::Steps::dropped_on, crate::specs::Steps::news_drops, crate::specs::Steps::taken, crate::specs::Steps::used_of, crate::specs::Events::offered))]
     pub fn connect(self, link: Link, time: u64) -> Given
         ensures { ConnectSays self link time result }
     {
@@ -71,18 +55,20 @@ impl Feed {
         if self.lacks_need(link) {
             return self.kept(20);
         }
-        let mut f = self.in_phase(Phase::WaitKey);
-        f.next = 1;
-        f.heard = time;
-        f.fresh = is_fresh(link);
-        f.kept(0)
+        Feed {
+            phase: Phase::WaitKey,
+            next: 1,
+            heard: time,
+            fresh: link == Link::Fresh,
+            ..self
+        }
+        .kept(0)
     }
 
     // The badge at a time.
     pub fn badge(self, time: u64) -> Badge
         ensures { BadgeSays self time result }
     {
-        let phase = self.phase;
-        badge_at(phase, self.heard, self.limit, time)
+        badge_at(self.phase, self.heard, self.limit, time)
     }
 }

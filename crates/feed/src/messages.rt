@@ -29,16 +29,16 @@ fn datum_of(t: u64) -> Datum
 }
 
 // What a message is, by its type.
+#[tactic(auto, unfolding(crate::specs::Messages::kind_of, ground::specs::Choice::pick))]
 fn kind_of(t: u64) -> Kind
     ensures { result ≡ kind_of t }
 {
     match t {
         203 => Kind::Session(Session::Complete),
-        1101 => Kind::Session(Session::Request),
+        1101 | 1201 => Kind::Session(Session::Request),
         1102 => Kind::Session(Session::Logon),
         1103 => Kind::Session(Session::Logout),
         1105 => Kind::Session(Session::SendKey),
-        1201 => Kind::Session(Session::Request),
         1202 => Kind::Session(Session::Refresh),
         _ => Kind::Market(datum_of(t)),
     }
@@ -52,27 +52,26 @@ pub(crate) fn kind_in(m: &[u8]) -> Kind
 }
 
 // Whether a book message has 12 + 24 x NoEntries bytes.
+#[tactic(auto, unfolding(ladder::specs::Message::book_sized))]
 fn is_book_sized(m: &[u8]) -> bool
     ensures { result ≡ book_sized m.now }
 {
-    if m.len() < ladder::ENTRIES_AT {
-        return false;
-    }
-    let n = wire::u8_at(m, ladder::NO_ENTRIES_AT) as usize;
-    m.len() == ladder::ENTRIES_AT + ladder::ENTRY_BYTES * n
+    ladder::ENTRIES_AT <= m.len()
+        && m.len()
+            == ladder::ENTRIES_AT
+                + ladder::ENTRY_BYTES * wire::u8_at(m, ladder::NO_ENTRIES_AT) as usize
 }
 
 // Whether a session's message has the size of its type.
+#[tactic(auto, unfolding(crate::specs::Messages::sized))]
 fn is_session_sized(session: Session, m: &[u8]) -> bool
     ensures { result ≡ sized (Kind.Session session) m.now }
 {
     match session {
-        Session::SendKey => true,
-        Session::Logon => m.len() == CONTROL_BYTES,
-        Session::Logout => m.len() == CONTROL_BYTES,
-        Session::Refresh => m.len() == CONTROL_BYTES,
-        Session::Complete => m.len() == CONTROL_BYTES,
-        Session::Request => true,
+        Session::Logon | Session::Logout | Session::Refresh | Session::Complete => {
+            m.len() == CONTROL_BYTES
+        }
+        Session::SendKey | Session::Request => true,
     }
 }
 
@@ -91,77 +90,46 @@ fn is_sized(kind: Kind, m: &[u8]) -> bool
 }
 
 // Whether a message's size is wrong, or it has under 4 bytes or is not MsgSize long.
+#[tactic(auto, unfolding(crate::specs::Messages::wrong_size))]
 pub(crate) fn is_wrong(kind: Kind, m: &[u8]) -> bool
     requires { kind ≡ kind_in m.now }
     ensures { result ≡ wrong_size m.now }
 {
-    if m.len() < 4 {
-        return true;
-    }
-    let size = wire::u16_in(m, 0) as usize;
-    if size == m.len() {
-        return !is_sized(kind, m);
-    }
-    true
+    m.len() < 4 || wire::u16_in(m, 0) as usize != m.len() || !is_sized(kind, m)
 }
 
 // What a logon's status does.
+#[tactic(auto, unfolding(crate::specs::Messages::status_of, ground::specs::Choice::pick))]
 pub(crate) fn status_of(n: u64) -> Status
     ensures { result ≡ status_of n }
 {
     match n {
-        0 => Status::Opens,
-        2 => Status::Opens,
+        0 | 2 => Status::Opens,
         101 => Status::Refills,
-        1 => Status::Stays,
-        3 => Status::Stays,
-        8 => Status::Stays,
-        5 => Status::Closes,
-        6 => Status::Closes,
-        100 => Status::Closes,
-        104 => Status::Closes,
-        105 => Status::Closes,
+        1 | 3 | 8 => Status::Stays,
+        5 | 6 | 100 | 104 | 105 => Status::Closes,
         _ => Status::Unlisted,
     }
 }
 
 // Whether a logon's status is listed.
+#[tactic(auto, unfolding(crate::specs::Messages::listed_status))]
 fn is_listed_status(status: Status) -> bool
     ensures { result ≡ listed_status status }
 {
-    match status {
-        Status::Opens => true,
-        Status::Refills => true,
-        Status::Stays => true,
-        Status::Closes => true,
-        Status::Unlisted => false,
-    }
-}
-
-// Whether a logout's status is 6, 102 or 103.
-fn is_goodbye(n: u64) -> bool
-    ensures { result ≡ one_of n (6 ∷ 102 ∷ 103 ∷ []) }
-{
-    if n == 6 {
-        return true;
-    }
-    if n == 102 {
-        return true;
-    }
-    n == 103
+    status != Status::Unlisted
 }
 
 // Whether a session's message has a status that is listed, where it has one.
+#[tactic(auto, unfolding(crate::specs::Messages::listed, ground::specs::Choice::one_of))]
 fn is_session_listed(session: Session, m: &[u8]) -> bool
     ensures { result ≡ listed (Kind.Session session) m.now }
 {
     match session {
-        Session::SendKey => true,
         Session::Logon => is_listed_status(status_of(wire::u8_at(m, LOGON_STATUS_AT))),
-        Session::Logout => is_goodbye(wire::u8_at(m, STATUS_AT)),
+        Session::Logout => matches!(wire::u8_at(m, STATUS_AT), 6 | 102 | 103),
         Session::Refresh => wire::u8_at(m, STATUS_AT) == 0,
-        Session::Complete => true,
-        Session::Request => true,
+        Session::SendKey | Session::Complete | Session::Request => true,
     }
 }
 

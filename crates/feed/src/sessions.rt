@@ -10,21 +10,21 @@ use super::messages::{LAST_AT, LOGON_STATUS_AT, status_of};
 use super::{Feed, Kind, Phase, Session, Status};
 
 // Whether a logon clears the tables, by its status and whether the last accepted connect was fresh.
+#[tactic(auto, unfolding(crate::specs::Steps::clears_on))]
 fn is_cleared_by(status: Status, fresh: bool) -> bool
     ensures { result ≡ clears_on status fresh }
 {
     match status {
         Status::Opens => fresh,
         Status::Refills => true,
-        Status::Stays => false,
-        Status::Closes => false,
-        Status::Unlisted => false,
+        Status::Stays | Status::Closes | Status::Unlisted => false,
     }
 }
 
 // What a message of the session does.
 impl Feed {
     // What a logon's status makes of the feed.
+    #[tactic(auto, unfolding(crate::specs::Steps::logged_on, crate::specs::Steps::clears_on))]
     fn logged_on(self, status: Status) -> Feed
         ensures { (x : Tables) → state_of result (cleared_if (clears_on status self.fresh) x) ≡ logged_on status (state_of self x) }
     {
@@ -36,30 +36,22 @@ impl Feed {
                 self.live()
             }
             Status::Refills => self.forgotten().in_phase(Phase::Refreshing),
-            Status::Stays => self,
             Status::Closes => self.in_phase(Phase::Closed),
-            Status::Unlisted => self,
+            Status::Stays | Status::Unlisted => self,
         }
     }
 
     // Whether a session's message that is taken clears the tables.
+    #[tactic(auto, unfolding(crate::specs::Steps::clears))]
     pub(crate) fn is_clearing(self, session: Session, message: &[u8]) -> bool
         ensures { result ≡ clears session message.now self.fresh }
     {
-        match session {
-            Session::SendKey => false,
-            Session::Logon => is_cleared_by(
-                status_of(wire::u8_at(message, LOGON_STATUS_AT)),
-                self.fresh,
-            ),
-            Session::Logout => false,
-            Session::Refresh => false,
-            Session::Complete => false,
-            Session::Request => false,
-        }
+        session == Session::Logon
+            && is_cleared_by(status_of(wire::u8_at(message, LOGON_STATUS_AT)), self.fresh)
     }
 
     // The feed after a session's message that is taken: what it does, and the next SeqNum advances.
+    #[tactic(auto, using(crate::proofs::Parts::logon_later), unfolding(crate::specs::Steps::taken, crate::specs::Steps::does, crate::specs::Steps::counted, crate::specs::Messages::market, crate::specs::Messages::on_market, crate::specs::Steps::clears))]
     pub(crate) fn done(self, session: Session, message: &[u8], time: u64) -> Feed
         requires { (Kind.Session session ≡ kind_in message.now) × (self.next ≤ last_seq_num) }
         ensures { (seq internal : ℕ) (x : Tables) → state_of result (cleared_if (clears session message.now self.fresh) x) ≡ taken time (Message seq internal message.now) (state_of self x) }
@@ -69,9 +61,8 @@ impl Feed {
             Session::SendKey => f.in_phase(Phase::WaitLogon),
             Session::Logon => f.logged_on(status_of(wire::u8_at(message, LOGON_STATUS_AT))),
             Session::Logout => f.in_phase(Phase::Closed),
-            Session::Refresh => f,
             Session::Complete => f.completed(wire::u32_at(message, LAST_AT)),
-            Session::Request => f,
+            Session::Refresh | Session::Request => f,
         }
     }
 }

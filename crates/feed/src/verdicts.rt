@@ -6,39 +6,36 @@ ghost use Rattle.feed.specs.Answers.{allowed, seen};
 ghost use Rattle.feed.specs.Code.Judging.{verdict as verdict_of, refusal as refusal_of};
 
 use super::messages::{is_listed, is_wrong};
-use super::phases::{is_deaf, is_phase};
 use super::{Answer, Datum, Feed, Kind, Phase, Session};
 
 // Whether a session's message is allowed in a phase.
+#[tactic(auto, unfolding(crate::specs::Answers::allowed, crate::specs::Feeds::is))]
 fn is_session_allowed(session: Session, p: Phase) -> bool
     ensures { result ≡ allowed (Kind.Session session) p 0 }
 {
     match session {
-        Session::SendKey => is_phase(p, Phase::WaitKey),
-        Session::Logon => is_phase(p, Phase::WaitLogon),
-        Session::Logout => !is_deaf(p),
-        Session::Refresh => is_phase(p, Phase::Refreshing),
-        Session::Complete => is_phase(p, Phase::Refreshing),
+        Session::SendKey => p == Phase::WaitKey,
+        Session::Logon => p == Phase::WaitLogon,
+        Session::Logout => !p.is_deaf(),
+        Session::Refresh | Session::Complete => p == Phase::Refreshing,
         Session::Request => false,
     }
 }
 
 // Whether a market message with an internal number is allowed in a phase.
+#[tactic(auto, unfolding(crate::specs::Answers::allowed, crate::specs::Feeds::is))]
 fn is_market_allowed(p: Phase, internal: u32) -> bool
     ensures { result ≡ allowed (Kind.Market Datum.Other) p internal }
 {
     match p {
-        Phase::Idle => false,
-        Phase::WaitKey => false,
-        Phase::WaitLogon => false,
         Phase::Refreshing => internal == 0,
         Phase::Live => 1 <= internal,
-        Phase::Lost => false,
-        Phase::Closed => false,
+        Phase::Idle | Phase::WaitKey | Phase::WaitLogon | Phase::Lost | Phase::Closed => false,
     }
 }
 
 // Whether a message with an internal number is allowed in a phase.
+#[tactic(auto, unfolding(crate::specs::Answers::allowed))]
 fn is_allowed(kind: Kind, p: Phase, internal: u32) -> bool
     ensures { result ≡ allowed kind p internal }
 {
@@ -51,17 +48,13 @@ fn is_allowed(kind: Kind, p: Phase, internal: u32) -> bool
 // What the feed decides by itself.
 impl Feed {
     // Whether a message is a market message in Live, not above the last internal number.
+    #[tactic(auto, unfolding(crate::specs::Answers::seen, crate::specs::Messages::market, crate::specs::Messages::on_market, crate::specs::Feeds::is))]
     fn is_seen(self, kind: Kind, internal: u32) -> bool
         ensures { result ≡ seen self kind internal }
     {
-        let phase = self.phase;
-        if is_phase(phase, Phase::Live) {
-            return match kind {
-                Kind::Session(_) => false,
-                Kind::Market(_) => internal as u64 <= self.internal,
-            };
-        }
-        false
+        self.phase == Phase::Live
+            && matches!(kind, Kind::Market(_))
+            && u64::from(internal) <= self.internal
     }
 
     // 10 or 11, where an arrival gets no further, and 0 where it does.
@@ -71,14 +64,14 @@ impl Feed {
         if time < self.heard {
             return 10;
         }
-        let phase = self.phase;
-        if is_deaf(phase) {
+        if self.phase.is_deaf() {
             return 11;
         }
         0
     }
 
     // What the feed by itself makes of a message: 10, 11, 12, 13, 14, 1, 15, or 0 where it leaves the answer to the tables.
+    #[tactic(auto, unfolding(ground::specs::Choice::first, crate::specs::Answers::line_tests, crate::specs::Events::on_message, crate::specs::Answers::arrives, crate::specs::Answers::lacks_need, crate::specs::Answers::is_too_long, crate::specs::Answers::is_more, crate::specs::Answers::is_next))]
     pub(crate) fn verdict(
         self,
         kind: Kind,
@@ -97,11 +90,10 @@ impl Feed {
         if is_wrong(kind, message) {
             return Answer::Lose(12);
         }
-        if seq as u64 != self.next {
+        if u64::from(seq) != self.next {
             return Answer::Lose(13);
         }
-        let phase = self.phase;
-        if is_allowed(kind, phase, internal) {
+        if is_allowed(kind, self.phase, internal) {
             if self.is_seen(kind, internal) {
                 return Answer::Skip(1);
             }
