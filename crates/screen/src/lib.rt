@@ -148,7 +148,7 @@ fn link_of(resuming: u64) -> Link
 fn feed_of(f: MmdhFeed) -> Feed
     ensures { result ≡ feed_of f }
 {
-    let phase = feed::phase_of(f.phase);
+    let phase = f.phase.into();
     let whole = is_yes(f.whole);
     let fresh = is_yes(f.fresh);
     Feed {
@@ -166,8 +166,7 @@ fn feed_of(f: MmdhFeed) -> Feed
 fn plain_feed(f: Feed) -> MmdhFeed
     ensures { result ≡ plain_feed f }
 {
-    let p = f.phase;
-    let phase = feed::phase_number(p);
+    let phase = f.phase.into();
     let whole = bit_of(f.whole);
     let fresh = bit_of(f.fresh);
     MmdhFeed {
