@@ -5,7 +5,7 @@ use Rattle.strips.specs.Table.{strips_after}
 use Rattle.feed.specs.Messages.{kind, market, status_of, logon_status, last_internal}
 use Rattle.feed.specs.Feeds.{is, in_phase, next_is, internal_is, heard_at, whole_is, fresh_is}
 use Rattle.feed.specs.Events.{Tables, cleared_tables, State, Event, time_of, News, Linked, More, Heartbeat, TooLong, Message, news, offered}
-use Rattle.feed.specs.Answers.{number, reply}
+use Rattle.feed.specs.Answers.{Answer, Keep, Lose, Spoil, Skip, Take, number, reply}
 use Rattle.feed.specs.declared.Phase.TheVariants.{WaitKey, WaitLogon, Refreshing, Live, Lost, Closed}
 use Rattle.feed.specs.declared.Kind.{Kind}
 use Rattle.feed.specs.declared.Kind.TheVariants.{Session, Market}
@@ -19,8 +19,6 @@ use Rattle.feed.specs.declared.Link.{Link}
 use Rattle.feed.specs.declared.Link.TheVariants.{Fresh, Resuming}
 use Rattle.feed.specs.declared.Feed.{Feed}
 use Rattle.feed.specs.declared.Given.{Given}
-use Rattle.feed.specs.declared.Answer.{Answer}
-use Rattle.feed.specs.declared.Answer.TheVariants.{Keep, Lose, Spoil, Skip, Take}
 
 -- the feed of a state changed, its tables as they are
 abbrev pub on_feed : (Feed → Feed) → State → State

@@ -3,9 +3,10 @@ ghost use Rattle.std.specs.Prelude.{◌≡◌, false, cond, ◌≤◌};
 ghost use Rattle.feed.specs.Feeds.{in_phase, internal_is, heard_at, whole_is};
 ghost use Rattle.feed.specs.Answers.{last_seq_num};
 ghost use Rattle.feed.specs.Steps.{enter_live, advanced as advanced_at, counted, accepted};
-ghost use Rattle.feed.specs.Code.Judging.{answered, used_is, dropped_is};
+ghost use Rattle.feed.specs.Code.Judging.{answered, fault, refused as refused_by, used_is, dropped_is};
 
 use super::{Datum, Feed, Given, Kind, Phase};
+use ground::Refusal;
 
 // The feed with one thing changed, and the feed with an answer.
 impl Feed {
@@ -28,13 +29,6 @@ impl Feed {
         }
     }
 
-    // Lost, with the answer that did it.
-    pub(crate) fn lost(self, answer: u64) -> Given
-        ensures { result ≡ answered answer (in_phase Phase.Lost self) }
-    {
-        self.in_phase(Phase::Lost).kept(answer)
-    }
-
     // Lost and not whole, with the answer that did it.
     pub(crate) fn spoilt(self, answer: u64) -> Given
         ensures { result ≡ answered answer (in_phase Phase.Lost (whole_is false self)) }
@@ -45,6 +39,27 @@ impl Feed {
             ..self
         }
         .kept(answer)
+    }
+
+    // Refused: document 01's number, and the feed as its table has it, which is unchanged, Lost, or Lost and not whole.
+    pub(crate) fn refused(self, refusal: Refusal) -> Given
+        ensures { result ≡ refused_by (fault refusal) self }
+    {
+        let answer = refusal.into();
+        match refusal {
+            Refusal::More
+            | Refusal::Missing
+            | Refusal::Early
+            | Refusal::Deaf
+            | Refusal::Limit
+            | Refusal::Need => self.kept(answer),
+            Refusal::Size | Refusal::Gap | Refusal::Phase | Refusal::TooLong => {
+                self.in_phase(Phase::Lost).kept(answer)
+            }
+            Refusal::Unlisted | Refusal::Misfit | Refusal::Full | Refusal::Unsound => {
+                self.spoilt(answer)
+            }
+        }
     }
 
     // The last heard time is set.

@@ -40,15 +40,11 @@ pub struct Feed {
     pub fresh: bool,
 }
 
-// An answer, by what document 01's table says of the feed afterwards: unchanged; Lost; Lost and not whole; the number advances, heard;
-// as told of what is taken, heard.
+// A message that nothing refuses: seen before, so that its number alone counts; or one for the feed and its tables to take.
 #[derive(Clone, Copy, PartialEq, Eq)]
-pub enum Answer {
-    Keep(u64),
-    Lose(u64),
-    Spoil(u64),
-    Skip(u64),
-    Take(u64),
+pub(crate) enum Turn {
+    Seen,
+    Taken,
 }
 
 // What a call hands back: document 01's answer number, the bytes used, the feed after it, and how many rows were dropped.
@@ -83,6 +79,22 @@ pub enum Badge {
     Stale,
     Green,
     Filling,
+}
+
+// Why a badge is what it is, in the order of the numbers from 0: live; never connected; waiting for the key, for the logon, for the refresh; silent
+// beyond the limit; asked of before the last heard time; lost; closed; a limit outside 1 to 600,000.
+#[derive(Clone, Copy, PartialEq, Eq)]
+pub(crate) enum Reason {
+    Live,
+    Unconnected,
+    Key,
+    Logon,
+    Refresh,
+    Silent,
+    Early,
+    Lost,
+    Closed,
+    Limit,
 }
 
 // The session's messages: 1105, 1102, 1103, 1202, 203; and 1101 and 1201, which only the client sends.

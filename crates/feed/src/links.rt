@@ -7,6 +7,7 @@ ghost use Rattle.feed.specs.Answers.{lacks_need};
 
 use super::badges::{badge_at, is_limit};
 use super::{Badge, Feed, Given, Link, Phase};
+use ground::Refusal;
 
 // A new feed with a limit.
 fn idle(limit: u64) -> Feed
@@ -33,7 +34,7 @@ impl Feed {
         if is_limit(limit) {
             return idle(limit).kept(0);
         }
-        idle(1000).kept(19)
+        idle(1000).refused(Refusal::Limit)
     }
 
     // Whether a connect is resuming without its need.
@@ -50,10 +51,10 @@ impl Feed {
         ensures { ConnectSays self link time result }
     {
         if time < self.heard {
-            return self.kept(10);
+            return self.refused(Refusal::Early);
         }
         if self.lacks_need(link) {
-            return self.kept(20);
+            return self.refused(Refusal::Need);
         }
         Feed {
             phase: Phase::WaitKey,

@@ -16,6 +16,7 @@ pub(crate) const LOGON_STATUS_AT: usize = 6;
 pub(crate) const LAST_AT: usize = 4;
 
 // What a market message of a type brings.
+#[tactic(auto, unfolding(crate::specs::Messages::datum_of, ground::specs::Choice::pick))]
 fn datum_of(t: u64) -> Datum
     ensures { result ≡ datum_of t }
 {
@@ -76,6 +77,7 @@ fn is_session_sized(session: Session, m: &[u8]) -> bool
 }
 
 // Whether a message has the size of its type.
+#[tactic(auto, unfolding(crate::specs::Messages::sized))]
 fn is_sized(kind: Kind, m: &[u8]) -> bool
     ensures { result ≡ sized kind m.now }
 {
@@ -134,6 +136,7 @@ fn is_session_listed(session: Session, m: &[u8]) -> bool
 }
 
 // Whether the fields of a message of the right size are listed.
+#[tactic(auto, using(crate::proofs::Parts::book_right), unfolding(crate::specs::Messages::listed))]
 pub(crate) fn is_listed(kind: Kind, m: &[u8]) -> bool
     requires { (kind ≡ kind_in m.now) × (wrong_size m.now ≡ false) }
     ensures { result ≡ listed kind m.now }

@@ -5,23 +5,7 @@ ghost use Rattle.feed.specs.Reasons.{reason, why as why_at, plain_why};
 ghost use Rattle.feed.specs.Code.Numbers.{reason_no};
 
 use super::badges::is_limit;
-use super::{Feed, Phase};
-
-// Why a badge is what it is, in the order of the numbers from 0: live; never connected; waiting for the key, for the logon, for the refresh; silent
-// beyond the limit; asked of before the last heard time; lost; closed; a limit outside 1 to 600,000.
-#[derive(Clone, Copy, PartialEq, Eq)]
-enum Reason {
-    Live,
-    Unconnected,
-    Key,
-    Logon,
-    Refresh,
-    Silent,
-    Early,
-    Lost,
-    Closed,
-    Limit,
-}
+use super::{Feed, Phase, Reason};
 
 // The number of a reason.
 impl From<Reason> for u64 {

@@ -3,10 +3,11 @@ ghost use Rattle.std.specs.Prelude.{◌≡◌};
 ghost use Rattle.feed.specs.Messages.{kind as kind_in};
 ghost use Rattle.feed.specs.Events.{Message};
 ghost use Rattle.feed.specs.Answers.{allowed, seen};
-ghost use Rattle.feed.specs.Code.Judging.{verdict as verdict_of, refusal as refusal_of};
+ghost use Rattle.feed.specs.Code.Judging.{hearing, judged, verdict as verdict_of};
 
 use super::messages::{is_listed, is_wrong};
-use super::{Answer, Datum, Feed, Kind, Phase, Session};
+use super::{Datum, Feed, Kind, Phase, Session, Turn};
+use ground::Refusal;
 
 // Whether a session's message is allowed in a phase.
 #[tactic(auto, unfolding(crate::specs::Answers::allowed, crate::specs::Feeds::is))]
@@ -57,20 +58,21 @@ impl Feed {
             && u64::from(internal) <= self.internal
     }
 
-    // 10 or 11, where an arrival gets no further, and 0 where it does.
-    pub(crate) fn refusal(self, time: u64) -> u64
-        ensures { result ≡ refusal_of self time }
+    // 10 or 11, where an arrival gets no further.
+    #[tactic(auto, unfolding(crate::specs::Code::Judging::hearing))]
+    pub(crate) fn hears(self, time: u64) -> Result<(), Refusal>
+        ensures { result ≡ hearing self time }
     {
         if time < self.heard {
-            return 10;
+            return Err(Refusal::Early);
         }
         if self.phase.is_deaf() {
-            return 11;
+            return Err(Refusal::Deaf);
         }
-        0
+        Ok(())
     }
 
-    // What the feed by itself makes of a message: 10, 11, 12, 13, 14, 1, 15, or 0 where it leaves the answer to the tables.
+    // What the feed by itself makes of a message: refused with 10 to 15, or not.
     #[tactic(auto, unfolding(ground::specs::Choice::first, crate::specs::Answers::line_tests, crate::specs::Events::on_message, crate::specs::Answers::arrives, crate::specs::Answers::lacks_need, crate::specs::Answers::is_too_long, crate::specs::Answers::is_more, crate::specs::Answers::is_next))]
     pub(crate) fn verdict(
         self,
@@ -79,29 +81,26 @@ impl Feed {
         internal: u32,
         message: &[u8],
         time: u64,
-    ) -> Answer
+    ) -> Result<Turn, Refusal>
         requires { kind ≡ kind_in message.now }
-        ensures { result ≡ verdict_of self time (Message seq internal message.now) }
+        ensures { judged result ≡ verdict_of self time (Message seq internal message.now) }
     {
-        let refused = self.refusal(time);
-        if 0 < refused {
-            return Answer::Keep(refused);
-        }
+        self.hears(time)?;
         if is_wrong(kind, message) {
-            return Answer::Lose(12);
+            return Err(Refusal::Size);
         }
         if u64::from(seq) != self.next {
-            return Answer::Lose(13);
+            return Err(Refusal::Gap);
         }
-        if is_allowed(kind, self.phase, internal) {
-            if self.is_seen(kind, internal) {
-                return Answer::Skip(1);
-            }
-            if is_listed(kind, message) {
-                return Answer::Take(0);
-            }
-            return Answer::Spoil(15);
+        if !is_allowed(kind, self.phase, internal) {
+            return Err(Refusal::Phase);
         }
-        Answer::Lose(14)
+        if self.is_seen(kind, internal) {
+            return Ok(Turn::Seen);
+        }
+        if !is_listed(kind, message) {
+            return Err(Refusal::Unlisted);
+        }
+        Ok(Turn::Taken)
     }
 }

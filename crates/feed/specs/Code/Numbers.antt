@@ -1,7 +1,7 @@
 -- The numbers of what the code keeps by name: a badge's reasons (specs/Reasons says what each is for). Assumes nothing.
 use Rattle.std.specs.Prelude.{ℕ}
-use Rattle.feed.specs.declared.reasons.Reason.{Reason}
-use Rattle.feed.specs.declared.reasons.Reason.TheVariants.{Live, Unconnected, Key, Logon, Refresh, Silent, Early, Lost, Closed, Limit}
+use Rattle.feed.specs.declared.Reason.{Reason}
+use Rattle.feed.specs.declared.Reason.TheVariants.{Live, Unconnected, Key, Logon, Refresh, Silent, Early, Lost, Closed, Limit}
 
 abbrev pub reason_no : Reason → ℕ
 reason_no Live = 0
