@@ -9,8 +9,8 @@ use Rattle.feed.specs.Messages.{kind, market, status_of, logon_status}
 use Rattle.feed.specs.Feeds.{is, internal_is}
 use Rattle.feed.specs.Events.{Tables, State, News, Linked, More, Heartbeat, TooLong, Message, news, time_of}
 use Rattle.feed.specs.Answers.{no_slot_for, misfits_for, reply}
-use Rattle.feed.specs.declared.Answer.{Answer}
-use Rattle.feed.specs.declared.Answer.TheVariants.{Keep, Lose, Spoil, Skip, Take}
+use Rattle.feed.specs.Answers.{Answer}
+use Rattle.feed.specs.Answers.{Keep, Lose, Spoil, Skip, Take}
 use Rattle.feed.specs.Steps.{logged_on, does, counted, taken, act, handed, outcome}
 use Rattle.feed.specs.declared.Phase.{Phase}
 use Rattle.feed.specs.declared.Phase.TheVariants.{Idle, WaitKey, WaitLogon, Refreshing, Live, Lost, Closed}

@@ -26,8 +26,8 @@ use Rattle.feed.specs.Messages.{kind, on_market, market, wrong_size, listed, sta
 use Rattle.feed.specs.Feeds.{is, deaf, internal_is, badge_no, badge, badge_of, listed_limit}
 use Rattle.feed.specs.Events.{Tables, cleared_tables, State, Event, Connect, News, Linked, More, Heartbeat, TooLong, Message, news, time_of, on_message}
 use Rattle.feed.specs.Answers.{number, arrives, lacks_need, is_more, is_too_long, last_seq_num, is_next, allowed, seen, unsound_for, no_slot_for, misfits_for, passed, line_tests, table_tests, tests, answer_to}
-use Rattle.feed.specs.declared.Answer.{Answer}
-use Rattle.feed.specs.declared.Answer.TheVariants.{Skip, Take}
+use Rattle.feed.specs.Answers.{Answer}
+use Rattle.feed.specs.Answers.{Skip, Take}
 use Rattle.feed.specs.Steps.{on_feed, cleared, enter_live, logged_on, tables_after, does, advanced, counted, taken, act, accepted, handed, outcome}
 use Rattle.feed.specs.declared.Phase.{Phase}
 use Rattle.feed.specs.declared.Phase.TheVariants.{WaitKey, WaitLogon, Refreshing, Live}

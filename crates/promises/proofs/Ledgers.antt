@@ -14,8 +14,8 @@ use Rattle.feed.specs.Messages.{kind, on_market, market, status_of, logon_status
 use Rattle.feed.specs.Feeds.{is, deaf, in_phase, internal_is, whole_is}
 use Rattle.feed.specs.Events.{State, Event, News, Linked, More, Heartbeat, TooLong, Message, news, time_of, on_message}
 use Rattle.feed.specs.Answers.{number, arrives, lacks_need, is_more, is_too_long, is_next, allowed, seen, line_tests, table_tests, tests, answer_to, reply}
-use Rattle.feed.specs.declared.Answer.{Answer}
-use Rattle.feed.specs.declared.Answer.TheVariants.{Keep, Lose, Spoil, Skip, Take}
+use Rattle.feed.specs.Answers.{Answer}
+use Rattle.feed.specs.Answers.{Keep, Lose, Spoil, Skip, Take}
 use Rattle.feed.specs.Steps.{on_feed, cleared, enter_live, logged_on, does, advanced, counted, taken, act, handed, outcome}
 use Rattle.feed.specs.declared.Phase.{Phase}
 use Rattle.feed.specs.declared.Phase.TheVariants.{Idle, WaitKey, WaitLogon, Refreshing, Live, Lost, Closed}

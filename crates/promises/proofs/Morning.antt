@@ -20,7 +20,7 @@ use Rattle.wire.specs.Codes.{security_code}
 use Rattle.feed.specs.Messages.{kind, status_of, logon_status}
 use Rattle.feed.specs.Events.{Tables, State, Event, Connect, Arrive, Cut, Overrun, News, Linked, More, Heartbeat, TooLong, Message, news, cut_from, time_of, on_message}
 use Rattle.feed.specs.Answers.{number, arrives, lacks_need, is_more, is_too_long, unsound_for, line_tests, table_tests, tests, answer_to}
-use Rattle.feed.specs.declared.Answer.TheVariants.{Take}
+use Rattle.feed.specs.Answers.{Take}
 use Rattle.feed.specs.Feeds.{badge_no, badge_of}
 use Rattle.feed.specs.Steps.{accepted, handed, outcome}
 use Rattle.feed.specs.declared.Kind.{Kind}

@@ -26,7 +26,7 @@ use Rattle.feed.specs.Feeds.{new_given}
 use Rattle.feed.specs.Events.{State, Event, Connect, Arrive, Cut, Overrun, Message, news, time_of, on_message}
 use Rattle.feed.specs.Answers.{number, tests}
 use Rattle.feed.specs.Steps.{accepted, outcome}
-use Rattle.feed.specs.declared.Answer.{Answer}
+use Rattle.feed.specs.Answers.{Answer}
 use Rattle.feed.specs.declared.Kind.{Kind}
 use Rattle.feed.specs.declared.Kind.TheVariants.{Session, Market}
 use Rattle.feed.specs.declared.Session.TheVariants.{SendKey, Logon, Logout, Refresh, Complete, Request}
