@@ -168,8 +168,8 @@ pub fn is_listed(m: &[u8]) -> bool
     requires { length m.now ≡ entries_at + entry_size * no_entries m.now }
     ensures { result ≡ listed_book m.now }
 {
-    if wire::is_code(wire::u32_in(m, wire::CODE_AT)) {
-        let n = wire::u8_in(m, ladder::NO_ENTRIES_AT) as usize;
+    if wire::is_code(wire::number_in::<4>(m, wire::CODE_AT)) {
+        let n = wire::number_in::<1>(m, ladder::NO_ENTRIES_AT) as usize;
         let part = &m[ladder::ENTRIES_AT..];
         return ladder::all_listed(part, n);
     }
@@ -189,8 +189,8 @@ pub fn take(table: &mut [u64], m: &[u8], time: u64) -> Walked
     requires { length m.now ≡ entries_at + entry_size * no_entries m.now }
     ensures { (landed result.answer table.new ≡ book_turn time m.now table.old) × (result.dropped ≡ rows_dropped time m.now table.old) }
 {
-    let n = wire::u8_in(m, ladder::NO_ENTRIES_AT) as usize;
-    let code = wire::u32_in(m, wire::CODE_AT);
+    let n = wire::number_in::<1>(m, ladder::NO_ENTRIES_AT) as usize;
+    let code = wire::number_in::<4>(m, wire::CODE_AT);
     if n == 0 {
         return Walked {
             answer: emptied(table, code),

@@ -49,7 +49,7 @@ fn kind_of(t: u64) -> Kind
 pub(crate) fn kind_in(m: &[u8]) -> Kind
     ensures { result ≡ kind_in m.now }
 {
-    kind_of(wire::u16_at(m, 2))
+    kind_of(wire::number_at::<2>(m, 2))
 }
 
 // Whether a book message has 12 + 24 x NoEntries bytes.
@@ -57,10 +57,8 @@ pub(crate) fn kind_in(m: &[u8]) -> Kind
 fn is_book_sized(m: &[u8]) -> bool
     ensures { result ≡ book_sized m.now }
 {
-    ladder::ENTRIES_AT <= m.len()
-        && m.len()
-            == ladder::ENTRIES_AT
-                + ladder::ENTRY_BYTES * wire::u8_at(m, ladder::NO_ENTRIES_AT) as usize
+    let n = wire::number_at::<1>(m, ladder::NO_ENTRIES_AT) as usize;
+    m.len() == ladder::ENTRIES_AT + ladder::ENTRY_BYTES * n
 }
 
 // Whether a session's message has the size of its type.
@@ -97,7 +95,7 @@ pub(crate) fn is_wrong(kind: Kind, m: &[u8]) -> bool
     requires { kind ≡ kind_in m.now }
     ensures { result ≡ wrong_size m.now }
 {
-    m.len() < 4 || wire::u16_in(m, 0) as usize != m.len() || !is_sized(kind, m)
+    m.len() < 4 || wire::number_in::<2>(m, 0) as usize != m.len() || !is_sized(kind, m)
 }
 
 // What a logon's status does.
@@ -128,9 +126,9 @@ fn is_session_listed(session: Session, m: &[u8]) -> bool
     ensures { result ≡ listed (Kind.Session session) m.now }
 {
     match session {
-        Session::Logon => is_listed_status(status_of(wire::u8_at(m, LOGON_STATUS_AT))),
-        Session::Logout => matches!(wire::u8_at(m, STATUS_AT), 6 | 102 | 103),
-        Session::Refresh => wire::u8_at(m, STATUS_AT) == 0,
+        Session::Logon => is_listed_status(status_of(wire::number_at::<1>(m, LOGON_STATUS_AT))),
+        Session::Logout => matches!(wire::number_at::<1>(m, STATUS_AT), 6 | 102 | 103),
+        Session::Refresh => wire::number_at::<1>(m, STATUS_AT) == 0,
         Session::SendKey | Session::Complete | Session::Request => true,
     }
 }

@@ -47,7 +47,10 @@ impl Feed {
         ensures { result ≡ clears session message.now self.fresh }
     {
         session == Session::Logon
-            && is_cleared_by(status_of(wire::u8_at(message, LOGON_STATUS_AT)), self.fresh)
+            && is_cleared_by(
+                status_of(wire::number_at::<1>(message, LOGON_STATUS_AT)),
+                self.fresh,
+            )
     }
 
     // The feed after a session's message that is taken: what it does, and the next SeqNum advances.
@@ -59,9 +62,12 @@ impl Feed {
         let f = self.advanced(time);
         match session {
             Session::SendKey => f.in_phase(Phase::WaitLogon),
-            Session::Logon => f.logged_on(status_of(wire::u8_at(message, LOGON_STATUS_AT))),
+            Session::Logon => f.logged_on(status_of(wire::number_at::<1>(
+                message,
+                LOGON_STATUS_AT,
+            ))),
             Session::Logout => f.in_phase(Phase::Closed),
-            Session::Complete => f.completed(wire::u32_at(message, LAST_AT)),
+            Session::Complete => f.completed(wire::number_at::<4>(message, LAST_AT)),
             Session::Refresh | Session::Request => f,
         }
     }

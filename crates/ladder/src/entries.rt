@@ -29,12 +29,12 @@ pub(crate) fn entry_at(part: &[u8], at: usize) -> Entry
     requires { at + entry_size ≤ length part.now }
     ensures { result ≡ entry_at at part.now }
 {
-    let quantity = wire::u64_in(part, at);
-    let raw = wire::u32_in(part, at + 8);
-    let orders = wire::u32_in(part, at + 12);
-    let side = wire::u16_in(part, at + 16);
-    let level = wire::u8_in(part, at + 18);
-    let action = wire::u8_in(part, at + 19);
+    let quantity = wire::number_in::<8>(part, at);
+    let raw = wire::number_in::<4>(part, at + 8);
+    let orders = wire::number_in::<4>(part, at + 12);
+    let side = wire::number_in::<2>(part, at + 16);
+    let level = wire::number_in::<1>(part, at + 18);
+    let action = wire::number_in::<1>(part, at + 19);
     entry_of(quantity, raw, orders, side, level, action)
 }
 

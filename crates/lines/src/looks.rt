@@ -22,9 +22,9 @@ fn byte_at(hold: &[u8], held: usize, scrap: &[u8], at: usize) -> u64
     ensures { (result ≡ get_or (behind held hold.now scrap.now) at 0) × (result < 256) }
 {
     if at < held {
-        return wire::wide(hold[at]);
+        return u64::from(hold[at]);
     }
-    wire::wide(scrap[at - held])
+    u64::from(scrap[at - held])
 }
 
 // The number in two bytes of them.

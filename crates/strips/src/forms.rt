@@ -80,7 +80,7 @@ pub(crate) fn sort_of(k: usize) -> Sort
 pub(crate) fn shape_in(m: &[u8]) -> Shape
     ensures { result ≡ shape_of (msg_type m.now) }
 {
-    shape_of(wire::u16_at(m, 2))
+    shape_of(wire::number_at::<2>(m, 2))
 }
 
 // Whether a type is one of the strip's.
@@ -118,10 +118,10 @@ fn imbalance_in(m: &[u8], at: usize) -> u64
     requires { (12 ≤ length m.now) × (at + 8 ≤ length m.now) }
     ensures { result ≡ brings m.now (place at 8 Sort.Imbalance 7) }
 {
-    if wire::u8_in(m, DIRECTION_AT) == SPACE {
+    if wire::number_in::<1>(m, DIRECTION_AT) == SPACE {
         return 0;
     }
-    wire::u64_in(m, at)
+    wire::number_in::<8>(m, at)
 }
 
 // What a field of a message brings.
@@ -131,9 +131,9 @@ pub(crate) fn value_in(m: &[u8], f: Field) -> u64
 {
     let sort = f.sort;
     match sort {
-        Sort::Price => wire::biased(wire::u32_in(m, f.at)),
-        Sort::Quantity => wire::u64_in(m, f.at),
-        Sort::Direction => wire::u8_in(m, f.at),
+        Sort::Price => wire::biased(wire::number_in::<4>(m, f.at)),
+        Sort::Quantity => wire::number_in::<8>(m, f.at),
+        Sort::Direction => wire::number_in::<1>(m, f.at),
         Sort::Imbalance => imbalance_in(m, f.at),
     }
 }
@@ -147,7 +147,7 @@ fn is_field_listed(m: &[u8], f: Field) -> bool
     match sort {
         Sort::Price => true,
         Sort::Quantity => true,
-        Sort::Direction => is_direction(wire::u8_in(m, f.at)),
+        Sort::Direction => is_direction(wire::number_in::<1>(m, f.at)),
         Sort::Imbalance => true,
     }
 }
@@ -183,7 +183,7 @@ pub fn is_listed(m: &[u8]) -> bool
     requires { Sized m.now }
     ensures { result ≡ listed_strip m.now }
 {
-    if wire::is_code(wire::u32_in(m, wire::CODE_AT)) {
+    if wire::is_code(wire::number_in::<4>(m, wire::CODE_AT)) {
         let found = shape_in(m);
         return all_listed(m, found.first, found.count);
     }

@@ -69,7 +69,7 @@ pub fn take(table: &mut [u64], m: &[u8]) -> u64
     requires { Sized m.now }
     ensures { landed result table.new ≡ turn strips (step_of m.now) table.old }
 {
-    let code = wire::u32_in(m, wire::CODE_AT);
+    let code = wire::number_in::<4>(m, wire::CODE_AT);
     let slot = slots::find(table, MOST, STRIP_WORDS, code);
     match slot {
         Slot::Held(k) => in_slot(table, k, true, code, m),

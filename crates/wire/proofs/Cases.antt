@@ -4,17 +4,15 @@ use native.Mathlib.Nat.{sub_self, lt_of_lt_of_le, pow-le-pow_right, pow-succ', o
 use native.Mathlib.Omega.{arith}
 use mathlib.Core.Path.{◌≡◌, refl, sym, ◌∙◌}
 use mathlib.Core.List.{List, []}
-use mathlib.Core.Bool.{false}
-use lib.Dec.{leb, lit<}
+use lib.Dec.{lit<}
 use lib.ListN.{length, get_or, take, drop, length-drop, drop_of_length-le}
 use lib.Seq.{take_all, take-nil}
 use mir.Syntax.{w64}
 use mir.Val.{Fits}
 use borrow.Author.Rules.{rules}
-use borrow.Author.Tests.{lt-leb, le-leb, lt-ltb, le-ltb, ne_eqb}
+use borrow.Author.Tests.{lt-ltb, le-ltb, ne_eqb}
 use Rattle.wire.specs.Number.{field, biased}
 use Rattle.wire.specs.Units.{unit_of, message_in}
-use Rattle.wire.specs.Codes.{listed_code}
 use Rattle.wire.specs.declared.Unit.{Unit}
 use Rattle.wire.specs.declared.Unit.TheVariants.{More, Heartbeat, Message}
 use Rattle.wire.proofs.Fields.{field_drop, field_clip}
@@ -23,14 +21,13 @@ use Rattle.wire.proofs.Fields.{field_drop, field_clip}
 pub record Read (s : List ℕ) (at n v i : ℕ) : Type 0 where
   pub upto : i ≤ n
   pub few : n ≤ 8
-  pub there : at + n ≤ length s
   pub so_far : v ≡ field (at + i) (n - i) s
   pub below : v < 256 ^ (n - i)
 
 -- no byte is read yet
-pub read_none : (s : List ℕ) (at n : ℕ) → n ≤ 8 → at + n ≤ length s → Read s at n 0 n
+pub read_none : (s : List ℕ) (at n : ℕ) → n ≤ 8 → Read s at n 0 n
 unfolding field
-read_none s at n h l = record { upto = omega arith; few = h; there = l; so_far = rw (sub_self n); below = rw (sub_self n) (lit< tt) }
+read_none s at n h = record { upto = omega arith; few = h; so_far = rw (sub_self n); below = rw (sub_self n) (lit< tt) }
 
 -- at most seven bytes leave room for one more in 64 bits
 room : (s : List ℕ) (at n v i b : ℕ) → Read s at n v i → 0 < i → b < 256 → v * 256 + b < 18446744073709551616
@@ -54,10 +51,14 @@ read_more s at n v i b r h e l =
     record {
       upto = omega arith;
       few = r.few;
-      there = r.there;
       so_far = rw (p, field, q, ← r.so_far, ← e) (omega arith);
       below = rw (p, pow-succ' 256 (n - i)) (omega (arith, r.below));
     }
+
+pub read_first : (s : List ℕ) (n v i b : ℕ) → Read s 0 n v i → 0 < i → b ≡ get_or s (i - 1) 0 → b < 256 → Read s 0 n (v * 256 + b) (i - 1)
+read_first s n v i b r h e l =
+    let z : 0 + (i - 1) ≡ i - 1 = omega arith in
+    read_more s 0 n v i b r h (rw z e) l
 
 -- the last byte is read
 pub read_is : (s : List ℕ) (at n v i : ℕ) → Read s at n v i → i ≤ 0 → v ≡ field at n s
@@ -71,43 +72,19 @@ read_below s at n v i r h =
     let p : n - i ≡ n = omega arith in
     rw p at r.below
 
--- two bytes and four, straight out
+-- two bytes, straight out
 pub two_bytes : (s : List ℕ) (at a b : ℕ) → a ≡ get_or s at 0 → a < 256 → b ≡ get_or s (at + 1) 0 → b < 256 → (a + 256 * b ≡ field at 2 s) × (a + 256 * b < 65536)
 unfolding field
 two_bytes s at a b p h q k = (rw (← p, ← q) (omega arith), omega arith)
 
-pub four_bytes : (s : List ℕ) (at a b c d : ℕ) → a ≡ get_or s at 0 → a < 256 → b ≡ get_or s (at + 1) 0 → b < 256 → c ≡ get_or s (at + 2) 0 → c < 256
-    → d ≡ get_or s (at + 3) 0 → d < 256
-    → (a + 256 * b + 65536 * c + 16777216 * d ≡ field at 4 s) × (a + 256 * b + 65536 * c + 16777216 * d < 4294967296)
-unfolding field
-four_bytes s at a b c d p h q k r l t m =
-    let y : at + 1 + 1 ≡ at + 2 = omega arith in
-    let z : at + 2 + 1 ≡ at + 3 = omega arith in
-    (rw (y, z, ← p, ← q, ← r, ← t) (omega arith), omega arith)
+-- and of the bytes behind a place
+pub rest_is : (s : List ℕ) (at n v i : ℕ) → Read (take (length s - at) (drop at s)) 0 n v i → i ≤ 0 → v ≡ field at n s
+rest_is s at n v i r h =
+    let l : length (drop at s) ≤ length s - at = rw (length-drop at s) (omega arith) in
+    let z : at + 0 ≡ at = omega arith in
+    read_is (take (length s - at) (drop at s)) 0 n v i r h ∙ rw (take_all (length s - at) (drop at s) l, field_drop 0 n at s, z)
 
--- eight bytes, straight out
-pub eight_bytes : (s : List ℕ) (at a b c d e f g h r : ℕ)
-    → r ≡ a + 256 * b + 65536 * c + 16777216 * d + 4294967296 * e + 1099511627776 * f + 281474976710656 * g + 72057594037927936 * h
-    → a ≡ get_or s at 0 → a < 256 → b ≡ get_or s (at + 1) 0 → b < 256 → c ≡ get_or s (at + 2) 0 → c < 256 → d ≡ get_or s (at + 3) 0 → d < 256
-    → e ≡ get_or s (at + 4) 0 → e < 256 → f ≡ get_or s (at + 5) 0 → f < 256 → g ≡ get_or s (at + 6) 0 → g < 256 → h ≡ get_or s (at + 7) 0 → h < 256
-    → (r ≡ field at 8 s) × (r < 18446744073709551616)
-unfolding field
-eight_bytes s at a b c d e f g h r sum a₀ a₁ b₀ b₁ c₀ c₁ d₀ d₁ e₀ e₁ f₀ f₁ g₀ g₁ h₀ h₁ =
-    let two : at + 1 + 1 ≡ at + 2 = omega arith in
-    let three : at + 2 + 1 ≡ at + 3 = omega arith in
-    let four : at + 3 + 1 ≡ at + 4 = omega arith in
-    let five : at + 4 + 1 ≡ at + 5 = omega arith in
-    let six : at + 5 + 1 ≡ at + 6 = omega arith in
-    let seven : at + 6 + 1 ≡ at + 7 = omega arith in
-    (rw (two, three, four, five, six, seven, ← a₀, ← b₀, ← c₀, ← d₀, ← e₀, ← f₀, ← g₀, ← h₀) (omega arith), omega arith)
-
--- a number of which not all bytes are there, and one of which none is
-pub cut_is : (s : List ℕ) (at n r : ℕ) → at < length s → length s - at < n → r ≡ field at (length s - at) s → r ≡ field at n s
-cut_is s at n r a h f = f ∙ sym (field_clip at n (length s - at) s (omega arith) (omega arith))
-
-pub fewer_below : (n k r : ℕ) → k < n → r < 256 ^ k → r < 256 ^ n
-fewer_below n k r h l = lt_of_lt_of_le l (pow-le-pow_right {n = 256} (lit< tt) (omega arith))
-
+-- a number of which no byte is there
 pub none_is : (s : List ℕ) (at n : ℕ) → length s ≤ at → 0 ≡ field at n s
 unfolding field
 none_is s at n h = sym (field_clip at n 0 s (omega arith) (omega arith))
@@ -179,15 +156,6 @@ rest_part s r k n h e =
     let l : length (drop k s) ≤ length s - k = rw (length-drop k s) (omega arith) in
     rw (take_all (length s - k) (drop k s) l) at e
 
--- a code that is listed
-pub code_none : (c : ℕ) → c < 1 → false ≡ listed_code c
-unfolding listed_code
-code_none c h = rw (lt-leb 1 c h)
-
-pub code_rest : (c : ℕ) → 1 ≤ c → leb c 99999 ≡ listed_code c
-unfolding listed_code
-code_rest c h = rw (le-leb 1 c h)
-
 pub ruleset cases = (
   rules,
   read_none,
@@ -196,8 +164,6 @@ pub ruleset cases = (
   read_more,
   read_is,
   read_below,
-  cut_is,
-  fewer_below,
   none_is,
   none_below,
   biased_is,
@@ -213,6 +179,4 @@ pub ruleset cases = (
   the_rest,
   no_rest,
   rest_part,
-  code_none,
-  code_rest,
 )

@@ -34,114 +34,32 @@ pub enum Unit {
     },
 }
 
-// A byte, as a number of 64 bits.
-pub fn wide(x: u8) -> u64
-    ensures { (result ≡ x) × (result < 256) }
-{
-    x as u64
-}
-
-// The number in the n bytes from `at` on, all of them there.
-fn number_in(s: &[u8], at: usize, n: usize) -> u64
-    requires { (n ≤ 8) × (at + n ≤ length s.now) }
-    ensures { (result ≡ field at n s.now) × (result < 256 ^ n) }
+// The number in the N bytes from `at` on, all of them there.
+pub fn number_in<const N: usize>(s: &[u8], at: usize) -> u64
+    requires { (N ≤ 8) × (at + N ≤ length s.now) }
+    ensures { (result ≡ field at N s.now) × (result < 256 ^ N) }
 {
     let mut v: u64 = 0;
-    let mut i = n;
-    while 0 < i {
-        i -= 1;
-        v = v * 256 + wide(s[at + i]);
+    for i in (0..N).rev() {
+        v = v * 256 + u64::from(s[at + i]);
     }
     v
 }
 
-// The number in the n bytes from `at` on; a byte beyond the end counts as 0.
-fn number_at(s: &[u8], at: usize, n: usize) -> u64
-    requires { n ≤ 8 }
-    ensures { (result ≡ field at n s.now) × (result < 256 ^ n) }
+// The number in the N bytes from `at` on; a byte beyond the end counts as 0.
+pub fn number_at<const N: usize>(s: &[u8], at: usize) -> u64
+    requires { N ≤ 8 }
+    ensures { (result ≡ field at N s.now) × (result < 256 ^ N) }
 {
     if s.len() <= at {
         return 0;
     }
-    let left = s.len() - at;
-    if left < n {
-        return number_in(s, at, left);
+    let rest = &s[at..];
+    let mut v: u64 = 0;
+    for i in (0..N).rev() {
+        v = v * 256 + u64::from(rest.get(i).copied().unwrap_or(0));
     }
-    number_in(s, at, n)
-}
-
-// The number in the byte at a place, which is there.
-pub fn u8_in(s: &[u8], at: usize) -> u64
-    requires { at + 1 ≤ length s.now }
-    ensures { (result ≡ field at 1 s.now) × (result < 256) }
-{
-    number_in(s, at, 1)
-}
-
-// The number in the 2 bytes from `at` on, both of them there. Straight out, and so are 4 bytes: then the reading of a unit is short enough to be put
-// into each of the calls that read one.
-pub fn u16_in(s: &[u8], at: usize) -> u64
-    requires { at + 2 ≤ length s.now }
-    ensures { (result ≡ field at 2 s.now) × (result < 65536) }
-{
-    let a = wide(s[at]);
-    let b = wide(s[at + 1]);
-    a + 256 * b
-}
-
-// The number in the 4 bytes from `at` on, all of them there.
-pub fn u32_in(s: &[u8], at: usize) -> u64
-    requires { at + 4 ≤ length s.now }
-    ensures { (result ≡ field at 4 s.now) × (result < 4294967296) }
-{
-    let a = wide(s[at]);
-    let b = wide(s[at + 1]);
-    let c = wide(s[at + 2]);
-    let d = wide(s[at + 3]);
-    a + 256 * b + 65536 * c + 16777216 * d
-}
-
-// The number in the 8 bytes from `at` on, all of them there.
-pub fn u64_in(s: &[u8], at: usize) -> u64
-    requires { at + 8 ≤ length s.now }
-    ensures { (result ≡ field at 8 s.now) × (result < 18446744073709551616) }
-{
-    let a = wide(s[at]);
-    let b = wide(s[at + 1]);
-    let c = wide(s[at + 2]);
-    let d = wide(s[at + 3]);
-    let e = wide(s[at + 4]);
-    let f = wide(s[at + 5]);
-    let g = wide(s[at + 6]);
-    let h = wide(s[at + 7]);
-    a + 256 * b
-        + 65536 * c
-        + 16777216 * d
-        + 4294967296 * e
-        + 1099511627776 * f
-        + 281474976710656 * g
-        + 72057594037927936 * h
-}
-
-// The number in the byte at a place; a byte beyond the end counts as 0.
-pub fn u8_at(s: &[u8], at: usize) -> u64
-    ensures { (result ≡ field at 1 s.now) × (result < 256) }
-{
-    if at < s.len() { u8_in(s, at) } else { 0 }
-}
-
-// The number in the 2 bytes from `at` on; a byte beyond the end counts as 0.
-pub fn u16_at(s: &[u8], at: usize) -> u64
-    ensures { (result ≡ field at 2 s.now) × (result < 65536) }
-{
-    number_at(s, at, 2)
-}
-
-// The number in the 4 bytes from `at` on; a byte beyond the end counts as 0.
-pub fn u32_at(s: &[u8], at: usize) -> u64
-    ensures { (result ≡ field at 4 s.now) × (result < 4294967296) }
-{
-    number_at(s, at, 4)
+    v
 }
 
 // The word that a price is kept as, of the 4 bytes it came in.
@@ -156,10 +74,7 @@ pub fn biased(raw: u64) -> u64
 pub fn is_code(code: u64) -> bool
     ensures { result ≡ listed_code code }
 {
-    if code < 1 {
-        return false;
-    }
-    code <= 99999
+    (1..=99_999).contains(&code)
 }
 
 // The signed price that a word is kept for.
@@ -177,19 +92,19 @@ fn unit_in(s: &[u8]) -> Unit
     if s.len() < HEADER_BYTES {
         return Unit::More;
     }
-    let length = u16_in(s, 0);
+    let length = number_in::<2>(s, 0);
     if length == HEADER_BYTES as u64 {
         return Unit::Heartbeat;
     }
     if s.len() < SIZED_BYTES {
         return Unit::More;
     }
-    let size = u16_in(s, HEADER_BYTES) as usize;
+    let size = number_in::<2>(s, HEADER_BYTES) as usize;
     if s.len() < HEADER_BYTES + size {
         return Unit::More;
     }
-    let seq = u32_in(s, 4) as u32;
-    let internal = u32_in(s, 8) as u32;
+    let seq = number_in::<4>(s, 4) as u32;
+    let internal = number_in::<4>(s, 8) as u32;
     Unit::Message {
         seq,
         internal,

@@ -3,9 +3,9 @@ use Rattle.strips.specs.Code.Shapes.{width_of}
 use Rattle.strips.proofs.Lists.{lists}
 use Rattle.strips.proofs.forms.is_field_listed.Goals as goal
 
-pub u8_in-requires : goal.u8_in-requires
+pub number_in-requires : goal.number_in-requires
 unfolding listed_as width_of
-u8_in-requires c = search lists
+number_in-requires c = search lists
 
 pub returns-in-Price : goal.returns-in-Price
 unfolding listed_as width_of

@@ -1,8 +1,8 @@
 use Rattle.strips.proofs.Lists.{lists}
 use Rattle.strips.proofs.forms.is_listed.Goals as goal
 
-pub u32_in-requires : goal.u32_in-requires
-u32_in-requires c = search lists
+pub number_in-requires : goal.number_in-requires
+number_in-requires c = search lists
 
 pub all_listed-requires : goal.all_listed-requires
 all_listed-requires c = search lists

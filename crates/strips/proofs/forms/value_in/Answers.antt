@@ -3,17 +3,17 @@ use Rattle.strips.specs.Code.Shapes.{width_of}
 use Rattle.strips.proofs.Lists.{lists}
 use Rattle.strips.proofs.forms.value_in.Goals as goal
 
-pub u32_in-requires : goal.u32_in-requires
+pub number_in-requires : goal.number_in-requires
 unfolding value_of width_of
-u32_in-requires c = search lists
+number_in-requires c = search lists
 
-pub u64_in-requires : goal.u64_in-requires
+pub number_in-requires-in-Quantity : goal.number_in-requires-in-Quantity
 unfolding value_of width_of
-u64_in-requires c = search lists
+number_in-requires-in-Quantity c = search lists
 
-pub u8_in-requires : goal.u8_in-requires
+pub number_in-requires-in-Direction : goal.number_in-requires-in-Direction
 unfolding value_of width_of
-u8_in-requires c = search lists
+number_in-requires-in-Direction c = search lists
 
 pub imbalance_in-requires : goal.imbalance_in-requires
 unfolding value_of width_of

@@ -1,8 +1,8 @@
 use Rattle.strips.proofs.Turning.{turning}
 use Rattle.strips.proofs.tables.take.Goals as goal
 
-pub u32_in-code-requires : goal.u32_in-code-requires
-u32_in-code-requires c = search turning
+pub number_in-code-requires : goal.number_in-code-requires
+number_in-code-requires c = search turning
 
 pub in_slot-requires : goal.in_slot-requires
 in_slot-requires c = search turning

@@ -1,0 +1,5 @@
+use Rattle.wire.proofs.Cases.{Read}
+use Rattle.wire.proofs.number_at.Given as goal
+
+abbrev pub invariant-loop-i : goal.invariant-loop-i
+invariant-loop-i g l = Read l.rest 0 g.row.N l.v l.i
