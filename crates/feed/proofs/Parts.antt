@@ -21,8 +21,8 @@ use Rattle.feed.specs.declared.Kind.TheVariants.{Session, Market}
 use Rattle.feed.specs.declared.Session.TheVariants.{SendKey, Logon, Logout, Refresh, Complete, Request}
 use Rattle.feed.specs.declared.Datum.{Datum}
 use Rattle.feed.specs.declared.Datum.TheVariants.{Book, Strip, Other}
-use Rattle.feed.specs.declared.Status.{Status}
-use Rattle.feed.specs.declared.Status.TheVariants.{Opens, Refills, Stays, Closes, Unlisted}
+use Rattle.feed.specs.Messages.{Status}
+use Rattle.feed.specs.Messages.{Opens, Refills, Stays, Closes, Unlisted}
 use Rattle.feed.specs.declared.Feed.{Feed}
 
 -- what is a strip's message has a strip's type

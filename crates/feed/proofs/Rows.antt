@@ -47,7 +47,7 @@ use Rattle.feed.specs.declared.Session as session
 use Rattle.feed.specs.declared.Session.TheVariants.{SendKey, Logon, Logout, Refresh, Complete, Request}
 use Rattle.feed.specs.declared.Datum.{Datum}
 use Rattle.feed.specs.declared.Datum.TheVariants.{Book, Strip, Other}
-use Rattle.feed.specs.declared.Status.{Status}
+use Rattle.feed.specs.Messages.{Status}
 use Rattle.feed.specs.declared.Link.{Link}
 use Rattle.feed.specs.declared.Feed.{Feed}
 use Rattle.feed.specs.Answers.{Answer, Keep, Lose, Spoil, Skip, Take}

@@ -2,7 +2,7 @@
 use Rattle.std.specs.Prelude.{ℕ, ◌+◌, Bool, true, false, cond, ◌&&◌, List, leb}
 use Rattle.books.specs.Table.{books_after, drops_in}
 use Rattle.strips.specs.Table.{strips_after}
-use Rattle.feed.specs.Messages.{kind, market, status_of, logon_status, last_internal}
+use Rattle.feed.specs.Messages.{kind, market, Status, Opens, Refills, Stays, Closes, Unlisted, status_of, logon_status, last_internal}
 use Rattle.feed.specs.Feeds.{is, in_phase, next_is, internal_is, heard_at, whole_is, fresh_is}
 use Rattle.feed.specs.Events.{Tables, cleared_tables, State, Event, time_of, News, Linked, More, Heartbeat, TooLong, Message, news, offered}
 use Rattle.feed.specs.Answers.{Answer, Keep, Lose, Spoil, Skip, Take, number, reply}
@@ -13,8 +13,6 @@ use Rattle.feed.specs.declared.Session as session
 use Rattle.feed.specs.declared.Session.TheVariants.{SendKey, Logon, Logout, Refresh, Complete, Request}
 use Rattle.feed.specs.declared.Datum.{Datum}
 use Rattle.feed.specs.declared.Datum.TheVariants.{Book, Strip, Other}
-use Rattle.feed.specs.declared.Status.{Status}
-use Rattle.feed.specs.declared.Status.TheVariants.{Opens, Refills, Stays, Closes, Unlisted}
 use Rattle.feed.specs.declared.Link.{Link}
 use Rattle.feed.specs.declared.Link.TheVariants.{Fresh, Resuming}
 use Rattle.feed.specs.declared.Feed.{Feed}

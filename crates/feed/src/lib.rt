@@ -122,12 +122,11 @@ pub enum Kind {
     Market(Datum),
 }
 
-// What a logon's status does: Live; Refreshing; stays; Closed; not listed.
+// What a logon's listed status does: Live; Refreshing; stays; Closed.
 #[derive(Clone, Copy, PartialEq, Eq)]
 pub enum Status {
     Opens,
     Refills,
     Stays,
     Closes,
-    Unlisted,
 }

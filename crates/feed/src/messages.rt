@@ -2,7 +2,8 @@
 ghost use Rattle.std.specs.Prelude.{◌≡◌, false, [], ◌∷◌};
 ghost use Rattle.ground.specs.Choice.{one_of};
 ghost use Rattle.ladder.specs.Message.{book_sized};
-ghost use Rattle.feed.specs.Messages.{datum_of, kind_of, kind as kind_in, sized, wrong_size, status_of, listed_status, listed};
+ghost use Rattle.feed.specs.Messages.{datum_of, kind_of, kind as kind_in, sized, wrong_size, status_of, logon_status, listed};
+ghost use Rattle.feed.specs.Code.Judging.{read_as};
 
 use super::{Datum, Kind, Session, Status};
 
@@ -11,7 +12,7 @@ const CONTROL_BYTES: usize = 8;
 
 const STATUS_AT: usize = 4;
 
-pub(crate) const LOGON_STATUS_AT: usize = 6;
+const LOGON_STATUS_AT: usize = 6;
 
 pub(crate) const LAST_AT: usize = 4;
 
@@ -98,35 +99,34 @@ pub(crate) fn is_wrong(kind: Kind, m: &[u8]) -> bool
     m.len() < 4 || wire::number_in::<2>(m, 0) as usize != m.len() || !is_sized(kind, m)
 }
 
-// What a logon's status does.
+// What a logon's status does, where the status is listed.
 #[tactic(auto, unfolding(crate::specs::Messages::status_of, ground::specs::Choice::pick))]
-pub(crate) fn status_of(n: u64) -> Status
-    ensures { result ≡ status_of n }
+fn status_of(n: u64) -> Option<Status>
+    ensures { read_as result ≡ status_of n }
 {
     match n {
-        0 | 2 => Status::Opens,
-        101 => Status::Refills,
-        1 | 3 | 8 => Status::Stays,
-        5 | 6 | 100 | 104 | 105 => Status::Closes,
-        _ => Status::Unlisted,
+        0 | 2 => Some(Status::Opens),
+        101 => Some(Status::Refills),
+        1 | 3 | 8 => Some(Status::Stays),
+        5 | 6 | 100 | 104 | 105 => Some(Status::Closes),
+        _ => None,
     }
 }
 
-// Whether a logon's status is listed.
-#[tactic(auto, unfolding(crate::specs::Messages::listed_status))]
-fn is_listed_status(status: Status) -> bool
-    ensures { result ≡ listed_status status }
+// What a logon does, where its status is listed.
+pub(crate) fn status_in(m: &[u8]) -> Option<Status>
+    ensures { read_as result ≡ status_of (logon_status m.now) }
 {
-    status != Status::Unlisted
+    status_of(wire::number_at::<1>(m, LOGON_STATUS_AT))
 }
 
 // Whether a session's message has a status that is listed, where it has one.
-#[tactic(auto, unfolding(crate::specs::Messages::listed, ground::specs::Choice::one_of))]
+#[tactic(auto, unfolding(crate::specs::Messages::listed, crate::specs::Messages::listed_status, ground::specs::Choice::one_of))]
 fn is_session_listed(session: Session, m: &[u8]) -> bool
     ensures { result ≡ listed (Kind.Session session) m.now }
 {
     match session {
-        Session::Logon => is_listed_status(status_of(wire::number_at::<1>(m, LOGON_STATUS_AT))),
+        Session::Logon => status_in(m).is_some(),
         Session::Logout => matches!(wire::number_at::<1>(m, STATUS_AT), 6 | 102 | 103),
         Session::Refresh => wire::number_at::<1>(m, STATUS_AT) == 0,
         Session::SendKey | Session::Complete | Session::Request => true,

@@ -37,8 +37,8 @@ use Rattle.feed.specs.declared.Session.{Session as SessionOf}
 use Rattle.feed.specs.declared.Session.TheVariants.{SendKey, Logon, Logout, Refresh, Complete, Request}
 use Rattle.feed.specs.declared.Datum.{Datum}
 use Rattle.feed.specs.declared.Datum.TheVariants.{Book, Strip, Other}
-use Rattle.feed.specs.declared.Status.{Status}
-use Rattle.feed.specs.declared.Status.TheVariants.{Opens, Refills, Stays, Closes, Unlisted}
+use Rattle.feed.specs.Messages.{Status}
+use Rattle.feed.specs.Messages.{Opens, Refills, Stays, Closes, Unlisted}
 use Rattle.feed.specs.declared.Feed.{Feed}
 use Rattle.feed.specs.declared.Link.TheVariants.{Fresh}
 use Rattle.promises.specs.Runs.{Sizes, start, after, run, trace, Deed, Took, History, no_history, note_heard, note_over, note_news, note_status, note_taken, note, recall, history, replay_on}

@@ -1,8 +1,10 @@
 -- The parts in which the code judges and acts, lent no table and lent them. Assumes nothing.
-use Rattle.std.specs.Prelude.{ℕ, Bool, false, cond, ltb, Result, Ok, Err}
+use Rattle.std.specs.Prelude.{ℕ, Bool, false, cond, ltb, Option, Some, None, Result, Ok, Err}
 use Rattle.ground.specs.Choice.{first}
 use Rattle.ground.specs.declared.Refusal.{Refusal}
-use Rattle.ground.specs.declared.Refusal.TheVariants.{More, Missing, Early, Deaf, Size, Gap, Phase, Unlisted, Misfit, Full, Unsound, Limit, Need, TooLong}
+use Rattle.ground.specs.declared.Refusal.TheVariants as refusal
+use Rattle.ground.specs.declared.Refusal.TheVariants.{More, Missing, Early, Deaf, Size, Gap, Phase, Misfit, Full, Unsound, Limit, Need, TooLong}
+use Rattle.feed.specs.Messages.{Status, Opens, Refills, Stays, Closes, Unlisted}
 use Rattle.feed.specs.Feeds.{deaf, in_phase, whole_is}
 use Rattle.feed.specs.Events.{Tables, cleared_tables, State, Event, time_of, News, news}
 use Rattle.feed.specs.Answers.{Answer, Keep, Lose, Spoil, Skip, Take, line_tests, table_tests}
@@ -10,6 +12,8 @@ use Rattle.feed.specs.Steps.{Outcome, handed}
 use Rattle.feed.specs.declared.Phase.TheVariants.{Lost}
 use Rattle.feed.specs.declared.Feed.{Feed}
 use Rattle.feed.specs.declared.Given.{Given}
+use Rattle.feed.specs.declared.Status as code
+use Rattle.feed.specs.declared.Status.TheVariants as status
 use Rattle.feed.specs.declared.Turn.{Turn}
 use Rattle.feed.specs.declared.Turn.TheVariants.{Seen, Taken}
 
@@ -38,7 +42,7 @@ fault Deaf = Keep 11
 fault Size = Lose 12
 fault Gap = Lose 13
 fault Phase = Lose 14
-fault Unlisted = Spoil 15
+fault refusal.Unlisted = Spoil 15
 fault Misfit = Spoil 16
 fault Full = Spoil 17
 fault Unsound = Spoil 18
@@ -55,6 +59,14 @@ judged (Err e) = fault e
 -- 10 and 11 of an arrival, where it gets no further
 abbrev pub hearing : Feed → ℕ → Result (Unit {0}) Refusal
 hearing f time = cond (ltb time f.heard) (Err Early) (cond (deaf f.phase) (Err Deaf) (Ok tt))
+
+-- a status by what the code reads of it
+abbrev pub read_as : Option code.Status → Status
+read_as None = Unlisted
+read_as (Some status.Opens) = Opens
+read_as (Some status.Refills) = Refills
+read_as (Some status.Stays) = Stays
+read_as (Some status.Closes) = Closes
 
 -- the tables as they are left, cleared or not
 abbrev pub cleared_if : Bool → Tables → Tables
