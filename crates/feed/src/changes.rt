@@ -85,7 +85,7 @@ impl Feed {
     }
 
     // The same for a market message, and in Live its internal number becomes the last.
-    #[tactic(auto, unfolding(crate::specs::Steps::counted, crate::specs::Messages::market, crate::specs::Messages::on_market, crate::specs::Feeds::is))]
+    #[tactic(auto, using(crate::proofs::Parts::market_counted), unfolding(crate::specs::Feeds::is))]
     pub(crate) fn numbered(self, internal: u32, time: u64) -> Feed
         requires { self.next ≤ last_seq_num }
         ensures { result ≡ advanced_at time (counted (Kind.Market Datum.Other) internal self) }

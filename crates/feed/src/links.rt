@@ -46,7 +46,7 @@ impl Feed {
     }
 
     // A connect, fresh or resuming.
-    #[tactic(auto, unfolding(crate::specs::Steps::outcome, crate::specs::Steps::handed, ground::specs::Choice::first, crate::specs::Answers::tests, crate::specs::Answers::line_tests, crate::specs::Answers::table_tests, crate::specs::Events::time_of, crate::specs::Events::news, crate::specs::Events::on_message, crate::specs::Answers::arrives, crate::specs::Answers::is_too_long, crate::specs::Answers::is_more, crate::specs::Answers::number, crate::specs::Steps::act, crate::specs::Steps::dropped_on, crate::specs::Steps::news_drops, crate::specs::Steps::taken, crate::specs::Steps::used_of, crate::specs::Events::offered))]
+    #[tactic(auto, using(crate::proofs::Parts::connect_is))]
     pub fn connect(self, link: Link, time: u64) -> Given
         ensures { ConnectSays self link time result }
     {

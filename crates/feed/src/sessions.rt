@@ -46,7 +46,7 @@ impl Feed {
     }
 
     // The feed after a session's message that is taken: what it does, and the next SeqNum advances.
-    #[tactic(auto, using(crate::proofs::Parts::logon_later), unfolding(crate::specs::Steps::taken, crate::specs::Steps::does, crate::specs::Steps::counted, crate::specs::Messages::market, crate::specs::Messages::on_market, crate::specs::Steps::clears))]
+    #[tactic(auto, using(crate::proofs::Parts::sessions_done), unfolding(crate::specs::Steps::taken, crate::specs::Steps::does, crate::specs::Steps::clears))]
     pub(crate) fn done(self, session: Session, message: &[u8], time: u64) -> Feed
         requires { (Kind.Session session ≡ kind_in message.now) × (self.next ≤ last_seq_num) }
         ensures { (seq internal : ℕ) (x : Tables) → state_of result (cleared_if (clears session message.now self.fresh) x) ≡ taken time (Message seq internal message.now) (state_of self x) }

@@ -49,7 +49,7 @@ fn is_allowed(kind: Kind, p: Phase, internal: u32) -> bool
 // What the feed decides by itself.
 impl Feed {
     // Whether a message is a market message in Live, not above the last internal number.
-    #[tactic(auto, unfolding(crate::specs::Answers::seen, crate::specs::Messages::market, crate::specs::Messages::on_market, crate::specs::Feeds::is))]
+    #[tactic(auto, using(crate::proofs::Parts::seen_parts), unfolding(crate::specs::Feeds::is))]
     fn is_seen(self, kind: Kind, internal: u32) -> bool
         ensures { result ≡ seen self kind internal }
     {
@@ -73,7 +73,7 @@ impl Feed {
     }
 
     // What the feed by itself makes of a message: refused with 10 to 15, or not.
-    #[tactic(auto, unfolding(ground::specs::Choice::first, crate::specs::Answers::line_tests, crate::specs::Events::on_message, crate::specs::Answers::arrives, crate::specs::Answers::lacks_need, crate::specs::Answers::is_too_long, crate::specs::Answers::is_more, crate::specs::Answers::is_next))]
+    #[tactic(auto, using(crate::proofs::Parts::verdict_is), unfolding(crate::specs::Answers::is_next))]
     pub(crate) fn verdict(
         self,
         kind: Kind,
