@@ -14,7 +14,7 @@ use borrow.Author.Rules.{rules}
 use borrow.Author.Tests.{le-leb, lt-leb}
 use Rattle.ground.proofs.Bools.{split}
 use Rattle.feed.specs.Events.{Tables, State, Arrive}
-use Rattle.feed.specs.Steps.{Outcome, accepted, lent, state_of, out_of, outcome}
+use Rattle.feed.specs.Steps.{Outcome, accepted, state_of, out_of, outcome}
 use Rattle.feed.specs.Frames.{Framed, framed_of, opened, onward, through}
 use Rattle.feed.specs.declared.Feed.{Feed}
 use Rattle.feed.specs.declared.Given.{Given}

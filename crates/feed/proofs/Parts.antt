@@ -15,10 +15,10 @@ use Rattle.strips.specs.Forms.{is_strip, strip_sized}
 use Rattle.strips.specs.Code.Shapes.{Sized}
 use Rattle.feed.specs.Messages.{datum_of, kind_of, kind, on_market, market, sized, wrong_size, listed}
 use Rattle.feed.specs.Feeds.{is, deaf, internal_is}
-use Rattle.feed.specs.Answers.{Answer, Keep, Lose, Spoil, Skip, Take, number, arrives, lacks_need, is_more, is_too_long, is_next, allowed, seen, line_tests, table_tests, tests}
+use Rattle.feed.specs.Answers.{Keep, Lose, Spoil, Skip, Take, number, arrives, lacks_need, is_more, is_too_long, is_next, allowed, seen, line_tests, table_tests, tests}
 use Rattle.feed.specs.Code.Judging.{answered, verdict}
-use Rattle.feed.specs.Events.{Tables, State, Connect, time_of, Linked, Message, news, on_message, offered}
-use Rattle.feed.specs.Steps.{cleared, enter_live, connected, logged_on, on_feed, does, advanced, counted, taken, act, used_of, news_drops, dropped_on, state_of, out_of, handed, outcome}
+use Rattle.feed.specs.Events.{Tables, Connect, time_of, Linked, Message, news, on_message, offered}
+use Rattle.feed.specs.Steps.{cleared, enter_live, connected, logged_on, on_feed, advanced, counted, taken, act, used_of, news_drops, dropped_on, state_of, out_of, handed, outcome}
 use Rattle.feed.specs.declared.Kind.{Kind}
 use Rattle.feed.specs.declared.Kind.TheVariants.{Session, Market}
 use Rattle.feed.specs.declared.Session as session

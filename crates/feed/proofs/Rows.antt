@@ -2,16 +2,13 @@
 use Prim.Native.Nat.{ℕ, ◌+◌, ◌≤◌, ◌<◌, ◌^◌}
 use mathlib.Core.Path.{◌≡◌, refl, ap, sym, subst, ◌∙◌}
 use mathlib.Core.Bool.{Bool, true, false, cond, not, true≢false}
-use mathlib.Core.List.{List, [], ◌∷◌}
-use native.Mathlib.Decide.{dec_lt}
+use mathlib.Core.List.{List}
 use native.Mathlib.Omega.{arith}
 use lib.Dec.{T, ltb, leb, eqb}
 use lib.ListN.{length}
 use mir.Syntax.{w64}
 use mir.Val.{Fits}
-use types.Run
-use denote.Enum.Declared
-use borrow.Author.Tests.{lt-ltb, le-ltb, le-leb, lt-leb, leb-true, eq-eqb, ne_eqb, eqb-true, not-false}
+use borrow.Author.Tests.{leb-true, eqb-true, not-false}
 use borrow.Author.Rules.{rules}
 use Rattle.std.specs.Prelude.{Result, Ok, Err}
 use Rattle.std.specs.Option.{unwrap_or}
@@ -26,29 +23,25 @@ use Rattle.wire.specs.declared.Unit.{Unit}
 use Rattle.wire.specs.declared.Unit.TheVariants as unit
 use Rattle.ground.proofs.Bools.{both, cond_same}
 use Rattle.ground.proofs.Choices.{none_upto, first_skips}
-use Rattle.wire.specs.contracts.Unit as the-unit
 use Rattle.wire.proofs.Fronts.{unit_fits, message_length}
 use Rattle.slots.specs.Layout.{Landed, landed, misfit, cleared_in, answer, turn}
 use Rattle.books.specs.Table.{books, book_answer, books_after, rows_dropped}
 use Rattle.strips.specs.Table as strip
 use Rattle.strips.specs.Table.{strips, step_of, strips_after}
 use Rattle.books.specs.Code.Turns.{book_turn}
-use Rattle.feed.specs.Messages.{kind_of, on_market, market, tabled, wrong_size, status_of, listed}
-use Rattle.feed.specs.Feeds.{deaf, in_phase, next_is, internal_is, heard_at, whole_is, fresh_is}
-use Rattle.feed.specs.Events.{Tables, cleared_tables, Event, Connect, Arrive, Cut, Overrun, time_of, News, Linked, TooLong, Message, cut_from, news, on_message, news_size, offered}
-use Rattle.feed.specs.Answers.{reply, number, arrives, lacks_need, is_more, is_too_long, is_next, allowed, seen, unsound_for, no_slot_for, misfits_for, passed, line_tests, table_tests, tests}
+use Rattle.feed.specs.Messages.{kind_of, on_market, market, tabled, wrong_size}
+use Rattle.feed.specs.Feeds.{deaf, in_phase, heard_at, whole_is}
+use Rattle.feed.specs.Events.{Tables, cleared_tables, Event, Arrive, Cut, Overrun, time_of, News, Message, cut_from, news, on_message, news_size, offered}
+use Rattle.feed.specs.Answers.{reply, number, arrives, lacks_need, is_more, is_too_long, is_next, unsound_for, no_slot_for, misfits_for, passed, line_tests, table_tests, tests}
 use Rattle.feed.specs.Code.Judging.{fault, refused, verdict, hearing}
-use Rattle.feed.specs.Steps.{enter_live, is_fresh, logged_on, clears_on, clears, tables_after, does, advanced, counted, taken, act, drops, news_drops, dropped_on, accepted, used_of, Outcome, lent, state_of, out_of, handed, outcome}
+use Rattle.feed.specs.Steps.{clears, tables_after, does, advanced, counted, taken, act, drops, news_drops, dropped_on, accepted, used_of, Outcome, lent, state_of, out_of, handed, outcome}
 use Rattle.feed.specs.Code.Judging.{cleared_if, answered, used_is, dropped_is, on_tables}
-use Rattle.feed.specs.declared.Phase.TheVariants.{WaitKey, WaitLogon, Lost, Closed}
+use Rattle.feed.specs.declared.Phase.TheVariants.{Lost}
 use Rattle.feed.specs.declared.Kind.{Kind}
 use Rattle.feed.specs.declared.Kind.TheVariants.{Session, Market}
 use Rattle.feed.specs.declared.Session as session
-use Rattle.feed.specs.declared.Session.TheVariants.{SendKey, Logon, Logout, Refresh, Complete, Request}
 use Rattle.feed.specs.declared.Datum.{Datum}
 use Rattle.feed.specs.declared.Datum.TheVariants.{Book, Strip, Other}
-use Rattle.feed.specs.Messages.{Status}
-use Rattle.feed.specs.declared.Link.{Link}
 use Rattle.feed.specs.declared.Feed.{Feed}
 use Rattle.feed.specs.Answers.{Answer, Keep, Lose, Spoil, Skip, Take}
 use Rattle.feed.specs.declared.Given.{Given}
