@@ -79,8 +79,7 @@ impl Feed {
     {
         Feed {
             next: self.next + 1,
-            heard: time,
-            ..self
+            ..self.heard_at(time)
         }
     }
 
