@@ -1,28 +1,38 @@
 -- The password rule, old and new (document 02, request 7; the exchange's policy is 2.2.1 of 000 and of 003). Assumes nothing.
-use Rattle.std.specs.Prelude.{ℕ, ◌+◌, Bool, true, false, not, cond, ◌&&◌, ◌||◌, List, [], ◌∷◌, length, take, drop, eqb, ltb, leb}
+use Rattle.std.specs.Prelude.{ℕ, ◌+◌, Bool, true, false, not, cond, ◌&&◌, ◌||◌, List, [], ◌∷◌, length, take, drop, eqb, ltb, leb, Result, Ok, Err, ⊤}
 use Rattle.ground.specs.Choice.{one_of, first, any, same}
 use Rattle.password.specs.declared.Edition.{Edition}
 use Rattle.password.specs.declared.Edition.TheVariants.{E111, E136}
 use Rattle.password.specs.declared.Class.{Class}
 use Rattle.password.specs.declared.Class.TheVariants.{Upper, Lower, Digit, Special}
-use Rattle.password.specs.declared.Verdict.{Verdict}
-use Rattle.password.specs.declared.Verdict.TheVariants.{Passes, BadHistory, Short, NoUpper, NoLower, NoDigit, NoSpecial, Used}
+use Rattle.password.specs.declared.Fault.{Fault}
+use Rattle.password.specs.declared.Fault.TheVariants.{BadHistory, Short, NoUpper, NoLower, NoDigit, NoSpecial, Used}
 
 -- "the edition the site names": 1.11 and 1.36, by number
 abbrev pub edition_no : Edition → ℕ
 edition_no E111 = 111
 edition_no E136 = 136
 
--- a verdict's number: 0 passes, 23 as document 02 has it, and the six items in their order
+-- a verdict: a new password passes, or why it does not
+abbrev pub Verdict : Type 0
+Verdict = Result ⊤ Fault
+
+abbrev pub Passes : Verdict
+Passes = Ok tt
+
+-- a verdict's number: 23 as document 02 has it, and the six items in their order; 0 passes
+abbrev pub fault_no : Fault → ℕ
+fault_no BadHistory = 23
+fault_no Short = 1
+fault_no NoUpper = 2
+fault_no NoLower = 3
+fault_no NoDigit = 4
+fault_no NoSpecial = 5
+fault_no Used = 6
+
 abbrev pub verdict_no : Verdict → ℕ
-verdict_no Passes = 0
-verdict_no BadHistory = 23
-verdict_no Short = 1
-verdict_no NoUpper = 2
-verdict_no NoLower = 3
-verdict_no NoDigit = 4
-verdict_no NoSpecial = 5
-verdict_no Used = 6
+verdict_no (Ok _) = 0
+verdict_no (Err fault) = fault_no fault
 
 -- "at least 8 characters", "at least 16": a character is a byte
 abbrev pub shortest : Edition → ℕ
@@ -73,12 +83,12 @@ lasts (n ∷ ns) history = take n history ∷ lasts ns (drop n history)
 -- "the first failed item in the order length, upper, lower, digit, special, history"
 unfoldable pub items : Edition → List ℕ → List (List ℕ) → List (Bool × Verdict)
 items e new last =
-    (ltb (length new) (shortest e), Short)
-    ∷ (lacks Upper new, NoUpper)
-    ∷ (lacks Lower new, NoLower)
-    ∷ (lacks Digit new, NoDigit)
-    ∷ (asks_special e && lacks Special new, NoSpecial)
-    ∷ (any (same new) last, Used)
+    (ltb (length new) (shortest e), Err Short)
+    ∷ (lacks Upper new, Err NoUpper)
+    ∷ (lacks Lower new, Err NoLower)
+    ∷ (lacks Digit new, Err NoDigit)
+    ∷ (asks_special e && lacks Special new, Err NoSpecial)
+    ∷ (any (same new) last, Err Used)
     ∷ []
 
 abbrev pub judged : Edition → List ℕ → List (List ℕ) → Verdict
@@ -86,13 +96,13 @@ judged e new last = first (items e new last) Passes
 
 -- "new answer 23, tried first"
 unfoldable pub verdict_of : Edition → List ℕ → List ℕ → List ℕ → Verdict
-verdict_of e new lengths history = cond (bad_history lengths history) BadHistory (judged e new (lasts lengths history))
+verdict_of e new lengths history = cond (bad_history lengths history) (Err BadHistory) (judged e new (lasts lengths history))
 
 -- the same by numbers, for the C call: 23, then the edition's verdict, and 15 of another edition
 unfoldable pub plain_verdict : ℕ → List ℕ → List ℕ → List ℕ → ℕ
 plain_verdict n new lengths history =
     first
-    ((bad_history lengths history, verdict_no BadHistory)
+    ((bad_history lengths history, verdict_no (Err BadHistory))
     ∷ (eqb n (edition_no E111), verdict_no (verdict_of E111 new lengths history))
     ∷ (eqb n (edition_no E136), verdict_no (verdict_of E136 new lengths history))
     ∷ [])

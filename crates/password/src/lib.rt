@@ -1,21 +1,26 @@
 // New passwords, judged before the hub judges them: the verdict of an edition's rule on the bytes lent. Nothing is written, and no byte is copied.
 #![tactic(auto)]
 
-ghost use Rattle.std.specs.Prelude.{◌≡◌, ◌&&◌, length};
-ghost use Rattle.ground.specs.Choice.{one_of, any, same};
-ghost use Rattle.password.specs.Promised.{CheckSays, AskedSays};
-ghost use Rattle.password.specs.declared.Class.TheVariants.{Special};
-ghost use Rattle.password.specs.Rule.{shortest, asks_special, between, is_of, lacks, total, misses, bad_history, lasts, judged, verdict_no};
+ghost use Rattle.std.specs.Prelude.{ℕ, ◌≡◌, ◌-◌, ◌≤◌, List, length, SomeIff};
+ghost use Rattle.ground.specs.Choice.{any, same};
+ghost use Rattle.password.specs.Promised.{EditionSays, HistorySays, CheckSays, AskedSays};
+ghost use Rattle.password.specs.Rule.{fault_no, verdict_no, shortest, asks_special, is_of, lacks, total, lasts, judged};
+
+use std::marker::Model;
 
 // The editions of the exchange's document whose rules are known: 1.11 and 1.36.
-#[derive(Clone, Copy)]
+#[derive(Clone, Copy, Debug, PartialEq, Eq)]
 pub enum Edition {
     E111,
     E136,
 }
 
+// A number that is not that of such an edition.
+#[derive(Clone, Copy, Debug, PartialEq, Eq)]
+pub struct UnknownEdition;
+
 // The classes of characters that a rule asks for.
-#[derive(Clone, Copy)]
+#[derive(Clone, Copy, Debug, PartialEq, Eq)]
 pub enum Class {
     Upper,
     Lower,
@@ -23,10 +28,9 @@ pub enum Class {
     Special,
 }
 
-// What a new password gets: it passes, or the history is not one, or the first item that fails.
-#[derive(Clone, Copy)]
-pub enum Verdict {
-    Passes,
+// Why a new password does not pass: what is lent as a history is none, or the first item that fails.
+#[derive(Clone, Copy, Debug, PartialEq, Eq)]
+pub enum Fault {
     BadHistory,
     Short,
     NoUpper,
@@ -36,217 +40,198 @@ pub enum Verdict {
     Used,
 }
 
+// The last passwords: how long each is, and their bytes one after the other.
+#[derive(Drop)]
+struct History<'a> {
+    lengths: &'a [u64],
+    bytes: &'a [u8],
+}
+
+// In contracts it is the list of the passwords.
+impl<'a> Model for History<'a> {
+    ghost Value = { List (List ℕ) };
+
+    ghost view = { λ h. lasts h.lengths.now h.bytes.now };
+
+    ghost invariant = { λ h. total h.lengths.now ≡ length h.bytes.now };
+}
+
 // The most passwords of a history.
 const MOST: usize = 5;
 
+// An edition by its number.
+impl TryFrom<u64> for Edition {
+    type Error = UnknownEdition;
+
+    ghost try_from_gives = { EditionSays };
+
+    fn try_from(number: u64) -> Result<Self, UnknownEdition> {
+        match number {
+            111 => Ok(Edition::E111),
+            136 => Ok(Edition::E136),
+            _ => Err(UnknownEdition),
+        }
+    }
+}
+
+// A fault's number.
+impl From<Fault> for u64 {
+    ghost from_gives = { λ fault n. n ≡ fault_no fault };
+
+    fn from(fault: Fault) -> u64 {
+        match fault {
+            Fault::BadHistory => 23,
+            Fault::Short => 1,
+            Fault::NoUpper => 2,
+            Fault::NoLower => 3,
+            Fault::NoDigit => 4,
+            Fault::NoSpecial => 5,
+            Fault::Used => 6,
+        }
+    }
+}
+
 // A verdict's number.
-pub fn verdict_number(v: Verdict) -> u64
-    ensures { result ≡ verdict_no v }
+pub fn verdict_number(verdict: Result<(), Fault>) -> u64
+    ensures { result ≡ verdict_no verdict }
 {
-    match v {
-        Verdict::Passes => 0,
-        Verdict::BadHistory => 23,
-        Verdict::Short => 1,
-        Verdict::NoUpper => 2,
-        Verdict::NoLower => 3,
-        Verdict::NoDigit => 4,
-        Verdict::NoSpecial => 5,
-        Verdict::Used => 6,
+    match verdict {
+        Ok(()) => 0,
+        Err(fault) => fault.into(),
     }
 }
 
-// The least number of bytes.
-fn shortest_of(edition: Edition) -> usize
-    ensures { result ≡ shortest edition }
-{
-    match edition {
-        Edition::E111 => 8,
-        Edition::E136 => 16,
-    }
-}
-
-// Whether a special character is asked for.
-fn is_special_asked(edition: Edition) -> bool
-    ensures { result ≡ asks_special edition }
-{
-    match edition {
-        Edition::E111 => false,
-        Edition::E136 => true,
-    }
-}
-
-// Whether a byte is in a range.
-fn is_between(lo: u8, hi: u8, b: u8) -> bool
-    ensures { result ≡ between lo hi b }
-{
-    if lo <= b {
-        return b <= hi;
-    }
-    false
-}
-
-// Whether a byte is among those listed.
-fn is_one_of(b: u8, listed: &[u8]) -> bool
-    ensures { result ≡ one_of b listed.now }
-{
-    let mut i = 0;
-    while i < listed.len() {
-        if b == listed[i] {
-            return true;
+impl Edition {
+    // The least number of bytes.
+    fn shortest(self) -> usize
+        ensures { result ≡ shortest self }
+    {
+        match self {
+            Edition::E111 => 8,
+            Edition::E136 => 16,
         }
-        i += 1;
     }
-    false
-}
 
-// Whether a byte is of a class.
-fn is_of(class: Class, b: u8) -> bool
-    ensures { result ≡ is_of class b }
-{
-    match class {
-        Class::Upper => is_between(65, 90, b),
-        Class::Lower => is_between(97, 122, b),
-        Class::Digit => is_between(48, 57, b),
-        Class::Special => is_one_of(b, b"!@#$^&*()"),
-    }
-}
-
-// Whether no byte is of a class.
-fn is_lacking(class: Class, new: &[u8]) -> bool
-    ensures { result ≡ lacks class new.now }
-{
-    let mut i = 0;
-    while i < new.len() {
-        if is_of(class, new[i]) {
-            return false;
+    // Whether a special character is asked for.
+    fn asks_special(self) -> bool
+        ensures { result ≡ asks_special self }
+    {
+        match self {
+            Edition::E111 => false,
+            Edition::E136 => true,
         }
-        i += 1;
     }
-    true
 }
 
-// Whether a special character is asked for and missing.
-fn is_special_missing(edition: Edition, new: &[u8]) -> bool
-    ensures { result ≡ asks_special edition && lacks Special new.now }
-{
-    if is_special_asked(edition) {
-        return is_lacking(Class::Special, new);
-    }
-    false
-}
-
-// Whether two passwords are the same.
-fn is_same(a: &[u8], b: &[u8]) -> bool
-    ensures { result ≡ same a.now b.now }
-{
-    if a.len() == b.len() {
-        let mut i = 0;
-        while i < a.len() {
-            if a[i] == b[i] {
-                i += 1;
-            } else {
-                return false;
-            }
+impl Class {
+    // Whether a byte is of the class.
+    #[tactic(auto, unfolding(crate::specs::Rule::is_of, ground::specs::Choice::one_of))]
+    fn has(self, b: u8) -> bool
+        ensures { result ≡ is_of self b }
+    {
+        match self {
+            Class::Upper => b.is_ascii_uppercase(),
+            Class::Lower => b.is_ascii_lowercase(),
+            Class::Digit => b.is_ascii_digit(),
+            Class::Special => b"!@#$^&*()".contains(&b),
         }
-        return true;
     }
-    false
+
+    // Whether no byte is of the class.
+    fn is_missing_in(self, new: &[u8]) -> bool
+        ensures { result ≡ lacks self new.now }
+    {
+        !new.iter().any(|&b| self.has(b))
+    }
 }
 
-// Whether lengths do not add up to so many bytes. What is left of these is counted down, so that no sum can wrap.
-fn is_sum_wrong(lengths: &[u64], bytes: u64) -> bool
-    ensures { result ≡ misses lengths.now bytes }
+// What lengths leave of so many bytes, if they leave any. It is counted down, so that no sum can wrap.
+#[tactic(auto, unfolding(crate::specs::Rule::total))]
+fn left_of(bytes: u64, lengths: &[u64]) -> Option<u64>
+    ensures { SomeIff result (total lengths.now ≤ bytes) (bytes - total lengths.now) }
 {
     let mut left = bytes;
-    let mut i = 0;
-    while i < lengths.len() {
-        let n = lengths[i];
-        if n <= left {
-            left -= n;
-            i += 1;
-        } else {
-            return true;
+    for &n in lengths {
+        left = left.checked_sub(n)?;
+    }
+    Some(left)
+}
+
+impl<'a> History<'a> {
+    // What is lent, as a history: none where there are too many lengths, or lengths that do not add up to the bytes.
+    #[tactic(auto, unfolding(crate::specs::Rule::bad_history))]
+    fn new(lengths: &'a [u64], bytes: &'a [u8]) -> Result<Self, Fault>
+        ensures { HistorySays lengths.now bytes.now result }
+    {
+        if lengths.len() > MOST || left_of(bytes.len() as u64, lengths) != Some(0) {
+            return Err(Fault::BadHistory);
         }
+        Ok(History { lengths, bytes })
     }
-    left != 0
-}
 
-// Whether what is lent as a history is none: too many lengths, or lengths that do not add up to the bytes.
-fn is_bad_history(lengths: &[u64], history: &[u8]) -> bool
-    ensures { result ≡ bad_history lengths.now history.now }
-{
-    if lengths.len() > MOST {
-        return true;
-    }
-    is_sum_wrong(lengths, history.len() as u64)
-}
-
-// Whether a password is one of the history.
-fn is_used(new: &[u8], lengths: &[u64], history: &[u8]) -> bool
-    requires { total lengths.now ≡ length history.now }
-    ensures { result ≡ any (same new.now) (lasts lengths.now history.now) }
-{
-    let mut at = 0;
-    let mut i = 0;
-    while i < lengths.len() {
-        let end = at + lengths[i] as usize;
-        if is_same(new, &history[at..end]) {
-            return true;
+    // Whether a password is one of the history.
+    #[tactic(auto, using(crate::proofs::Laws::total_step, crate::proofs::Laws::lasts_step), unfolding(crate::specs::Rule::lasts, ground::specs::Choice::any))]
+    fn has(&self, new: &[u8]) -> bool
+        ensures { result ≡ any (same new.now) self.now }
+    {
+        let mut rest = self.bytes;
+        for &n in self.lengths {
+            let (last, after) = rest.split_at(n as usize);
+            if new == last {
+                return true;
+            }
+            rest = after;
         }
-        at = end;
-        i += 1;
+        false
     }
-    false
 }
 
-// The first item that fails, with a history that adds up.
-fn judge(edition: Edition, new: &[u8], lengths: &[u64], history: &[u8]) -> Verdict
-    requires { total lengths.now ≡ length history.now }
-    ensures { result ≡ judged edition new.now (lasts lengths.now history.now) }
+// The first item that fails.
+#[tactic(auto, unfolding(crate::specs::Rule::items, ground::specs::Choice::first))]
+fn judge(edition: Edition, new: &[u8], history: &History) -> Result<(), Fault>
+    ensures { result ≡ judged edition new.now history.now }
 {
-    if new.len() < shortest_of(edition) {
-        return Verdict::Short;
+    if new.len() < edition.shortest() {
+        return Err(Fault::Short);
     }
-    if is_lacking(Class::Upper, new) {
-        return Verdict::NoUpper;
+    if Class::Upper.is_missing_in(new) {
+        return Err(Fault::NoUpper);
     }
-    if is_lacking(Class::Lower, new) {
-        return Verdict::NoLower;
+    if Class::Lower.is_missing_in(new) {
+        return Err(Fault::NoLower);
     }
-    if is_lacking(Class::Digit, new) {
-        return Verdict::NoDigit;
+    if Class::Digit.is_missing_in(new) {
+        return Err(Fault::NoDigit);
     }
-    if is_special_missing(edition, new) {
-        return Verdict::NoSpecial;
+    if edition.asks_special() && Class::Special.is_missing_in(new) {
+        return Err(Fault::NoSpecial);
     }
-    if is_used(new, lengths, history) {
-        return Verdict::Used;
+    if history.has(new) {
+        return Err(Fault::Used);
     }
-    Verdict::Passes
+    Ok(())
 }
 
 // The verdict on a new password under an edition, with the last passwords: their lengths, and their bytes one after the other.
-pub fn check(edition: Edition, new: &[u8], lengths: &[u64], history: &[u8]) -> Verdict
+#[tactic(auto, unfolding(crate::specs::Rule::verdict_of))]
+pub fn check(edition: Edition, new: &[u8], lengths: &[u64], history: &[u8]) -> Result<(), Fault>
     ensures { CheckSays edition new.now lengths.now history.now result }
 {
-    if is_bad_history(lengths, history) {
-        return Verdict::BadHistory;
-    }
-    judge(edition, new, lengths, history)
+    let history = History::new(lengths, history)?;
+    judge(edition, new, &history)
 }
 
 // The number of the verdict under an edition by its number: 111 or 136, and 15 for another.
+#[tactic(auto, unfolding(crate::specs::Rule::plain_verdict, crate::specs::Rule::verdict_of, ground::specs::Choice::first))]
 pub fn asked(edition: u64, new: &[u8], lengths: &[u64], history: &[u8]) -> u64
     ensures { AskedSays edition new.now lengths.now history.now result }
 {
-    if is_bad_history(lengths, history) {
-        return verdict_number(Verdict::BadHistory);
-    }
-    if edition == 111 {
-        return verdict_number(judge(Edition::E111, new, lengths, history));
-    }
-    if edition == 136 {
-        return verdict_number(judge(Edition::E136, new, lengths, history));
-    }
-    15
+    let history = match History::new(lengths, history) {
+        Ok(history) => history,
+        Err(fault) => return fault.into(),
+    };
+    let Ok(edition) = Edition::try_from(edition) else {
+        return 15;
+    };
+    verdict_number(judge(edition, new, &history))
 }

@@ -7,16 +7,16 @@ use mathlib.Core.List.{List, [], ◌∷◌}
 use lib.ListN.{length, get_or}
 use lib.Dec.{eqb, ltb, leb}
 use borrow.Author.Tests.{eqb-true, eqb-false, ltb-true, ltb-false, le-leb, leb-true, ne_eqb}
+use Rattle.std.specs.Prelude.{Ok, Err}
 use Rattle.ground.specs.Choice.{pick, first, any, same}
 use Rattle.ground.proofs.Bools.{both, join, of_T, is_T}
 use Rattle.ground.proofs.Choices.{any_found, any_at, same_is, same_self}
-use Rattle.password.specs.Rule.{verdict_no, shortest, between, asks_special, is_of, lacks, total, bad_history, lasts, items, verdict_of, plain_verdict}
+use Rattle.password.specs.Rule.{Verdict, Passes, verdict_no, shortest, between, asks_special, is_of, lacks, total, bad_history, lasts, items, verdict_of, plain_verdict}
 use Rattle.password.specs.declared.Edition.{Edition}
 use Rattle.password.specs.declared.Edition.TheVariants.{E111, E136}
 use Rattle.password.specs.declared.Class.{Class}
 use Rattle.password.specs.declared.Class.TheVariants.{Upper, Lower, Digit, Special}
-use Rattle.password.specs.declared.Verdict.{Verdict}
-use Rattle.password.specs.declared.Verdict.TheVariants.{Passes, BadHistory, Short, NoUpper, NoLower, NoDigit, NoSpecial, Used}
+use Rattle.password.specs.declared.Fault.TheVariants.{BadHistory, Short, NoUpper, NoLower, NoDigit, NoSpecial, Used}
 use Rattle.password.proofs.Laws.{lasts_count, lasts_at}
 use Rattle.promises.specs.Verdicts as said
 
@@ -113,7 +113,7 @@ module _ (e : Edition) (new l h : List ℕ) where
     where
       go : (a b c d f g i : Bool) → bad_history l h ≡ a → ltb (length new) (shortest e) ≡ b → lacks Upper new ≡ c → lacks Lower new ≡ d → lacks Digit new ≡ f
           → asks_special e && lacks Special new ≡ g → any (same new) (lasts l h) ≡ i
-          → said.Means e new l h (cond a BadHistory (cond b Short (cond c NoUpper (cond d NoLower (cond f NoDigit (cond g NoSpecial (cond i Used Passes)))))))
+          → said.Means e new l h (cond a (Err BadHistory) (cond b (Err Short) (cond c (Err NoUpper) (cond d (Err NoLower) (cond f (Err NoDigit) (cond g (Err NoSpecial) (cond i (Err Used) Passes)))))))
       go true b c d f g i a' b' c' d' f' g' i' = (adds l h).fails a'
       go false true c d f g i a' b' c' d' f' g' i' = ((adds l h).holds a', (long e new).fails b')
       go false false true d f g i a' b' c' d' f' g' i' = ((adds l h).holds a', (long e new).holds b', (upper new).fails c')
@@ -136,16 +136,16 @@ module _ (e : Edition) (new l h : List ℕ) where
 
   given : (v : Verdict) → said.Means e new l h v → verdict_of e new l h ≡ v
   unfolding verdict_of items first
-  given BadHistory m = rw (no_history_lem m)
-  given Short m = rw (history m.0, fail _ _ (long e new) m.1)
-  given NoUpper m = rw (history m.0, pass _ _ (long e new) m.1, fail _ _ (upper new) m.2)
-  given NoLower m = rw (history m.0, pass _ _ (long e new) m.1, pass _ _ (upper new) m.2, fail _ _ (lower new) m.3)
-  given NoDigit m = rw (history m.0, pass _ _ (long e new) m.1, pass _ _ (upper new) m.2, pass _ _ (lower new) m.3, fail _ _ (digit new) m.4)
-  given NoSpecial m =
+  given (Err BadHistory) m = rw (no_history_lem m)
+  given (Err Short) m = rw (history m.0, fail _ _ (long e new) m.1)
+  given (Err NoUpper) m = rw (history m.0, pass _ _ (long e new) m.1, fail _ _ (upper new) m.2)
+  given (Err NoLower) m = rw (history m.0, pass _ _ (long e new) m.1, pass _ _ (upper new) m.2, fail _ _ (lower new) m.3)
+  given (Err NoDigit) m = rw (history m.0, pass _ _ (long e new) m.1, pass _ _ (upper new) m.2, pass _ _ (lower new) m.3, fail _ _ (digit new) m.4)
+  given (Err NoSpecial) m =
       rw (history m.0, pass _ _ (long e new) m.1, pass _ _ (upper new) m.2, pass _ _ (lower new) m.3, pass _ _ (digit new) m.4, fail _ _ (special e new) m.5)
-  given Used m =
+  given (Err Used) m =
       rw (history m.0, pass _ _ (long e new) m.1, pass _ _ (upper new) m.2, pass _ _ (lower new) m.3, pass _ _ (digit new) m.4, pass _ _ (special e new) m.5, found new l h m.6)
-  given Passes m =
+  given (Ok _) m =
       rw (
         history m.0,
         pass _ _ (long e new) m.1,
@@ -165,7 +165,7 @@ old_passes_too new l h p =
     given E111 new l h Passes (m.0, omega (arith, m.1), m.2, m.3, m.4, tt, m.6)
 
 -- a verdict's number, wherever the history is tried first
-numbered : (t : Bool) (v : Verdict) → cond t (verdict_no BadHistory) (verdict_no (cond t BadHistory v)) ≡ verdict_no (cond t BadHistory v)
+numbered : (t : Bool) (v : Verdict) → cond t (verdict_no (Err BadHistory)) (verdict_no (cond t (Err BadHistory) v)) ≡ verdict_no (cond t (Err BadHistory) v)
 numbered true v = refl
 numbered false v = refl
 
@@ -176,18 +176,18 @@ number_of_verdict E136 new l h = numbered (bad_history l h) _
 
 -- the verdict of a number
 unfoldable verdict_by : ℕ → Verdict
-verdict_by n = pick n ((23, BadHistory) ∷ (1, Short) ∷ (2, NoUpper) ∷ (3, NoLower) ∷ (4, NoDigit) ∷ (5, NoSpecial) ∷ (6, Used) ∷ []) Passes
+verdict_by n = pick n ((23, Err BadHistory) ∷ (1, Err Short) ∷ (2, Err NoUpper) ∷ (3, Err NoLower) ∷ (4, Err NoDigit) ∷ (5, Err NoSpecial) ∷ (6, Err Used) ∷ []) Passes
 
 by_number : (v : Verdict) → verdict_by (verdict_no v) ≡ v
 unfolding verdict_by pick
-by_number Passes = refl
-by_number BadHistory = refl
-by_number Short = refl
-by_number NoUpper = refl
-by_number NoLower = refl
-by_number NoDigit = refl
-by_number NoSpecial = refl
-by_number Used = refl
+by_number (Ok _) = refl
+by_number (Err BadHistory) = refl
+by_number (Err Short) = refl
+by_number (Err NoUpper) = refl
+by_number (Err NoLower) = refl
+by_number (Err NoDigit) = refl
+by_number (Err NoSpecial) = refl
+by_number (Err Used) = refl
 
 pub numbers_apart : said.NumbersApart
 numbers_apart v w e = sym (by_number v) ∙ ap verdict_by e ∙ by_number w

@@ -1,12 +1,11 @@
 -- What a verdict on a new password means, in places and numbers, and that the old edition passes whatever the new one passes (document 02, request 7).
 -- Each statement is proved in proofs/Verdicts, under its name with small letters. Assumes nothing.
-use Rattle.std.specs.Prelude.{ℕ, ◌≤◌, ◌<◌, ◌≡◌, ◌↔◌, List, length, take, drop, get_or, T}
+use Rattle.std.specs.Prelude.{ℕ, ◌≤◌, ◌<◌, ◌≡◌, ◌↔◌, List, length, take, drop, get_or, T, Ok, Err}
 use Rattle.ground.specs.Choice.{one_of}
-use Rattle.password.specs.Rule.{edition_no, verdict_no, specials, total, verdict_of, plain_verdict}
+use Rattle.password.specs.Rule.{Verdict, Passes, edition_no, verdict_no, specials, total, verdict_of, plain_verdict}
 use Rattle.password.specs.declared.Edition.{Edition}
 use Rattle.password.specs.declared.Edition.TheVariants.{E111, E136}
-use Rattle.password.specs.declared.Verdict.{Verdict}
-use Rattle.password.specs.declared.Verdict.TheVariants.{Passes, BadHistory, Short, NoUpper, NoLower, NoDigit, NoSpecial, Used}
+use Rattle.password.specs.declared.Fault.TheVariants.{BadHistory, Short, NoUpper, NoLower, NoDigit, NoSpecial, Used}
 
 -- a history is at most 5 lengths, which add up to the bytes lent
 abbrev pub Adds : List ℕ → List ℕ → Type 0
@@ -40,14 +39,14 @@ Again new lengths history = (k : ℕ) × (k < length lengths) × (take (get_or l
 
 -- of each verdict: the item fails, and all that is tried before it holds
 abbrev pub Means : Edition → List ℕ → List ℕ → List ℕ → Verdict → Type 0
-Means e new l h BadHistory = Adds l h → ⊥
-Means e new l h Short = Adds l h × (Long e new → ⊥)
-Means e new l h NoUpper = Adds l h × Long e new × (HasUpper new → ⊥)
-Means e new l h NoLower = Adds l h × Long e new × HasUpper new × (HasLower new → ⊥)
-Means e new l h NoDigit = Adds l h × Long e new × HasUpper new × HasLower new × (HasDigit new → ⊥)
-Means e new l h NoSpecial = Adds l h × Long e new × HasUpper new × HasLower new × HasDigit new × (HasSpecial e new → ⊥)
-Means e new l h Used = Adds l h × Long e new × HasUpper new × HasLower new × HasDigit new × HasSpecial e new × Again new l h
-Means e new l h Passes = Adds l h × Long e new × HasUpper new × HasLower new × HasDigit new × HasSpecial e new × (Again new l h → ⊥)
+Means e new l h (Err BadHistory) = Adds l h → ⊥
+Means e new l h (Err Short) = Adds l h × (Long e new → ⊥)
+Means e new l h (Err NoUpper) = Adds l h × Long e new × (HasUpper new → ⊥)
+Means e new l h (Err NoLower) = Adds l h × Long e new × HasUpper new × (HasLower new → ⊥)
+Means e new l h (Err NoDigit) = Adds l h × Long e new × HasUpper new × HasLower new × (HasDigit new → ⊥)
+Means e new l h (Err NoSpecial) = Adds l h × Long e new × HasUpper new × HasLower new × HasDigit new × (HasSpecial e new → ⊥)
+Means e new l h (Err Used) = Adds l h × Long e new × HasUpper new × HasLower new × HasDigit new × HasSpecial e new × Again new l h
+Means e new l h (Ok _) = Adds l h × Long e new × HasUpper new × HasLower new × HasDigit new × HasSpecial e new × (Again new l h → ⊥)
 
 -- a verdict is given exactly where what it means is so
 abbrev pub VerdictMeans : Type 0

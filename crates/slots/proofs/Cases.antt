@@ -1,123 +1,96 @@
 -- What the functions' proofs take: the two loops, and the answers of `find`. Assumes nothing.
-use mathlib.Core.Path.{◌≡◌, refl, sym, ap, ◌∙◌}
+use mathlib.Core.Path.{◌≡◌, refl, ◌∙◌}
 use mathlib.Core.List.{List, ◌++◌}
-use Prim.Native.Nat.{ℕ, ◌+◌, ◌*◌, ◌^◌, ◌≤◌, ◌<◌}
-use native.Mathlib.Nat.{mul-zero, mul-suc}
-use native.Mathlib.Numerals.{add-one}
+use Prim.Native.Nat.{ℕ, min, ◌+◌, ◌*◌, ◌/◌, ◌≤◌, ◌<◌}
+use native.Mathlib.Nat.{min_comm}
 use native.Mathlib.Omega.{arith}
-use mir.Syntax.{w64}
-use mir.Val.{Fits}
-use lib.ListN.{length, get_or, set, drop, replicate, length-set}
-use borrow.Author.Rules.{rules}
+use lib.Dec.{ltb}
+use lib.ListN.{length, get_or, take, drop, replicate}
+use mathlib.Core.Bool.{Bool, true, false, cond}
+use borrow.Author.Tests.{lt-ltb, le-ltb}
+use Rattle.std.proofs.lemmas.List.{length-take-le}
 use borrow.Author.Count.{below_none, below_more}
-use borrow.Author.Fill.{fill_none, fill_more}
 use Rattle.slots.specs.Slots.{slot_count, slots_of, lowest, place, cleared}
+use Rattle.slots.specs.Code.Turns.{found}
+use Rattle.slots.specs.declared.Slot.{Slot}
 use Rattle.slots.specs.declared.Slot.TheVariants.{Held, Free, Full}
+use Rattle.std.specs.Prelude.{Some, None}
+use Rattle.std.specs.declared.option.Option.{Option as MayBe}
 use Rattle.slots.proofs.Blocks.{slots_fit, slot_fits, length_blocks}
-use Rattle.slots.proofs.Lookup.{lowest_words, place_held, place_free, place_full}
+use Rattle.slots.proofs.Lookup.{lowest_words}
 
--- what a search has seen: `at` is where slot k of n starts, and no slot before it has the code
-pub record Seeking (t : List ℕ) (most w c n k at : ℕ) : Type 0 where
+-- what a search has seen: no slot before slot k of n has the code
+pub record Seeking (t : List ℕ) (w c n k : ℕ) : Type 0 where
   pub upto : k ≤ n
-  pub start : at ≡ w * k
-  pub size : n ≡ slot_count most w (length t)
-  pub wide : 0 < w
   pub none : (j : ℕ) → j < k → get_or t (w * j) 0 ≡ c → ⊥
 
--- slot k ends within the table
-room : (t : List ℕ) (most w c n k at : ℕ) → Seeking t most w c n k at → k < n → at + w ≤ length t
-room t most w c n k at s l = rw s.start (slot_fits w n k (length t) l (rw s.size (slots_fit most w (length t))))
+-- how many slots there are, as the code counts them
+pub counted : (most w len n : ℕ) → n ≡ min (len / w) most → n ≡ slot_count most w len
+counted most w len n e = e ∙ min_comm (len / w) most
+
+-- slot k lies within the table
+inside : (t : List ℕ) (most w n k : ℕ) → n ≡ slot_count most w (length t) → k < n → w * k + w ≤ length t
+inside t most w n k e l = slot_fits w n k (length t) l (rw e (slots_fit most w (length t)))
 
 -- before the first slot
-pub seek_none : (t : List ℕ) (most w c n : ℕ) → n ≡ slot_count most w (length t) → 0 < w → Seeking t most w c n 0 0
-seek_none t most w c n e p =
-    record { upto = omega arith; start = sym (mul-zero w); size = e; wide = p; none = below_none (λ (j : ℕ). get_or t (w * j) 0 ≡ c → ⊥) }
+pub seek_none : (t : List ℕ) (w c n : ℕ) → Seeking t w c n 0
+seek_none t w c n = record { upto = omega arith; none = below_none (λ (j : ℕ). get_or t (w * j) 0 ≡ c → ⊥) }
 
 -- the word of the code lies within the table
-pub seek_in : (t : List ℕ) (most w c n k at : ℕ) → Seeking t most w c n k at → k < n → at < length t
-seek_in t most w c n k at s l = let p = s.wide in omega (arith, room t most w c n k at s l)
-
--- its place in bytes does not wrap
-pub seek_bytes : (t : List ℕ) (most w c n k at : ℕ) → Seeking t most w c n k at → k < n → length t * 8 < 2 ^ 63 → Fits w64 (at * 8)
-seek_bytes t most w c n k at s l f = record { fits = omega (arith, seek_in t most w c n k at s l) }
-
--- nor does the next slot's
-pub seek_next : (t : List ℕ) (most w c n k at : ℕ) → Seeking t most w c n k at → k < n → length t * 8 < 2 ^ 63 → Fits w64 (at + w)
-seek_next t most w c n k at s l f = record { fits = omega (arith, room t most w c n k at s l) }
+pub seek_in : (t : List ℕ) (most w n k : ℕ) → n ≡ slot_count most w (length t) → 0 < w → k < n → w * k < length t
+seek_in t most w n k e p l = omega (arith, inside t most w n k e l)
 
 -- one slot more
-pub seek_more : (t : List ℕ) (most w c n k at : ℕ) → Seeking t most w c n k at → k < n → (get_or t at 0 ≡ c → ⊥)
-    → Seeking t most w c n (k + 1) (at + w)
-seek_more t most w c n k at s l ne =
-    record {
-      upto = omega arith;
-      start = rw (add-one, mul-suc, s.start);
-      size = s.size;
-      wide = s.wide;
-      none = below_more (λ (j : ℕ). get_or t (w * j) 0 ≡ c → ⊥) k s.none (rw s.start at ne);
-    }
+pub seek_more : (t : List ℕ) (w c n k : ℕ) → Seeking t w c n k → k < n → (get_or t (w * k) 0 ≡ c → ⊥) → Seeking t w c n (k + 1)
+seek_more t w c n k s l ne = record { upto = omega arith; none = below_more (λ (j : ℕ). get_or t (w * j) 0 ≡ c → ⊥) k s.none ne }
 
 -- the code is at slot k
-pub seek_here : (t : List ℕ) (most w c n k at : ℕ) → Seeking t most w c n k at → k < n → get_or t at 0 ≡ c → k ≡ lowest c (slots_of most w t)
-seek_here t most w c n k at s l e =
-    rw (← s.size) (sym (lowest_words w n c t k s.wide s.upto s.none (λ _. rw s.start at e)))
+pub seek_here : (t : List ℕ) (most w c n k : ℕ) → n ≡ slot_count most w (length t) → 0 < w → Seeking t w c n k → k < n → get_or t (w * k) 0 ≡ c
+    → Some k ≡ found c (slots_of most w t)
+seek_here t most w c n k z p s l e =
+    let here : lowest c (slots_of most w t) ≡ k = rw (← z) (lowest_words w n c t k p s.upto s.none (λ _. e)) in
+    let there : k < length (slots_of most w t) = rw (length_blocks, ← z) l in
+    rw (here, lt-ltb k (length (slots_of most w t)) there)
 
 -- no slot has it
-pub seek_end : (t : List ℕ) (most w c n k at : ℕ) → Seeking t most w c n k at → n ≤ k → n ≡ lowest c (slots_of most w t)
-seek_end t most w c n k at s l =
-    let e : n ≡ k = let u = s.upto in omega arith in
-    rw (← s.size) (e ∙ sym (lowest_words w n c t k s.wide s.upto s.none (λ m. absurd (omega arith))))
+pub seek_end : (t : List ℕ) (most w c n k : ℕ) → n ≡ slot_count most w (length t) → 0 < w → Seeking t w c n k → n ≤ k
+    → None ≡ found c (slots_of most w t)
+seek_end t most w c n k z p s l =
+    let e : k ≡ n = let u = s.upto in omega arith in
+    let here : lowest c (slots_of most w t) ≡ n = rw (← z) (lowest_words w n c t k p s.upto s.none (λ m. absurd (omega arith)) ∙ e) in
+    let there : length (slots_of most w t) ≤ n = rw (length_blocks, ← z) (omega arith) in
+    rw (here, le-ltb n (length (slots_of most w t)) there)
 
--- what `seek` needs
-pub ruleset seeks = (rules, seek_none, seek_in, seek_bytes, seek_next, seek_more, seek_here, seek_end)
+-- a place by the two searches
+abbrev place_of : MayBe ℕ → MayBe ℕ → Slot
+place_of (Some k) free = Held k
+place_of None (Some k) = Free k
+place_of None None = Full
 
--- the code is found
-pub find_held : (t : List ℕ) (most w c n k : ℕ) → n ≡ slot_count most w (length t) → k ≡ lowest c (slots_of most w t) → k < n
-    → Held k ≡ place c (slots_of most w t)
-find_held t most w c n k e f l = ap Held f ∙ sym (place_held c (slots_of most w t) (rw (length_blocks, ← f, ← e) l))
+place_is : (c : ℕ) (bs : List (List ℕ)) → place c bs ≡ place_of (found c bs) (found 0 bs)
+unfolding place
+place_is c bs = go (ltb (lowest c bs) (length bs)) (ltb (lowest 0 bs) (length bs))
+  where
+    go : (a b : Bool) → cond a (Held (lowest c bs)) (cond b (Free (lowest 0 bs)) Full)
+        ≡ place_of (cond a (Some (lowest c bs)) None) (cond b (Some (lowest 0 bs)) None)
+    go true b = refl
+    go false true = refl
+    go false false = refl
 
--- it is not, and a slot is free
-pub find_free : (t : List ℕ) (most w c n k j : ℕ) → n ≡ slot_count most w (length t) → k ≡ lowest c (slots_of most w t) → n ≤ k
-    → j ≡ lowest 0 (slots_of most w t) → j < n → Free j ≡ place c (slots_of most w t)
-find_free t most w c n k j e f l g m =
-    ap Free g ∙ sym (place_free c (slots_of most w t) (rw (length_blocks, ← f, ← e) l) (rw (length_blocks, ← g, ← e) m))
+-- the code is found; it is not, and a slot is free; none is
+pub find_held : (c k : ℕ) (bs : List (List ℕ)) (r : MayBe ℕ) → r ≡ found c bs → r ≡ Some k → Held k ≡ place c bs
+find_held c k bs r f e = rw (place_is c bs, ← f, e) refl
 
--- it is not, and none is free
-pub find_full : (t : List ℕ) (most w c n k j : ℕ) → n ≡ slot_count most w (length t) → k ≡ lowest c (slots_of most w t) → n ≤ k
-    → j ≡ lowest 0 (slots_of most w t) → n ≤ j → Full ≡ place c (slots_of most w t)
-find_full t most w c n k j e f l g m =
-    sym (place_full c (slots_of most w t) (rw (length_blocks, ← f, ← e) l) (rw (length_blocks, ← g, ← e) m))
+pub find_free : (c k : ℕ) (bs : List (List ℕ)) (r q : MayBe ℕ) → r ≡ found c bs → r ≡ None → q ≡ found 0 bs → q ≡ Some k → Free k ≡ place c bs
+find_free c k bs r q f e g h = rw (place_is c bs, ← f, e, ← g, h) refl
 
--- what `find` needs
-pub ruleset finds = (rules, find_held, find_free, find_full)
+pub find_full : (c : ℕ) (bs : List (List ℕ)) (r q : MayBe ℕ) → r ≡ found c bs → r ≡ None → q ≡ found 0 bs → q ≡ None → Full ≡ place c bs
+find_full c bs r q f e g h = rw (place_is c bs, ← f, e, ← g, h) refl
 
--- what a clearing has done: i of n words are zero
-pub record Zeroed (t₀ : List ℕ) (n : ℕ) (t : List ℕ) (i : ℕ) : Type 0 where
-  pub so_far : t ≡ replicate i 0 ++ drop i t₀
-  pub upto : i ≤ n
-  pub fits : n ≤ length t₀
-  pub same : length t ≡ length t₀
-
--- where the slots end, as a number of the machine
-pub end_fits : (t : List ℕ) (most w n : ℕ) → n ≡ slot_count most w (length t) → length t * 8 < 2 ^ 63 → Fits w64 (w * n)
-end_fits t most w n e f = record { fits = rw e (omega (arith, slots_fit most w (length t))) }
-
--- before the first word
-pub zero_none : (t : List ℕ) (most w n : ℕ) → n ≡ slot_count most w (length t) → Zeroed t (w * n) t 0
-zero_none t most w n e = record { so_far = fill_none t 0; upto = omega arith; fits = rw e (slots_fit most w (length t)); same = refl }
-
--- one word more
-pub zero_more : (t₀ t : List ℕ) (n i : ℕ) → Zeroed t₀ n t i → i < n → Zeroed t₀ n (set t i 0) (i + 1)
-zero_more t₀ t n i z l =
-    record { so_far = rw z.so_far (fill_more i 0 t₀ (omega arith)); upto = omega arith; fits = z.fits; same = length-set t i 0 ∙ z.same }
-
--- all of them
-pub zero_all : (t₀ t : List ℕ) (most w n i : ℕ) → Zeroed t₀ (w * n) t i → w * n ≤ i → n ≡ slot_count most w (length t₀)
-    → t ≡ cleared most w t₀
+-- all slots are zero
+pub zeroed : (t zs : List ℕ) (most w n : ℕ) → n ≡ slot_count most w (length t) → zs ≡ replicate (length (take (w * n) t)) 0
+    → zs ++ drop (w * n) t ≡ cleared most w t
 unfolding cleared
-zero_all t₀ t most w n i z l e =
-    let p : i ≡ w * n = let u = z.upto in omega arith in
-    rw (← e, ← p) z.so_far
-
--- what `clear` needs
-pub ruleset zeros = (rules, end_fits, zero_none, zero_more, zero_all)
+zeroed t zs most w n e f =
+    let l : w * n ≤ length t = rw e (slots_fit most w (length t)) in
+    rw (f, length-take-le (w * n) t l, e) refl

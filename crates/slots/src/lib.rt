@@ -2,44 +2,32 @@
 #![tactic(auto)]
 
 ghost use Rattle.std.specs.Prelude.{◌≡◌, ◌<◌};
-ghost use Rattle.slots.specs.Slots.{slot_count, slots_of, lowest, place, cleared};
+ghost use Rattle.slots.specs.Slots.{slots_of, code_of, place, cleared};
+ghost use Rattle.slots.specs.Code.Turns.{found};
 
 // "at most 4,096": how many slots a table of books has at most.
 pub const MOST: usize = 4096;
 
 // Where a code belongs: the lowest slot that has it; else the lowest free slot; else nowhere.
-#[derive(Clone, Copy)]
+#[derive(Clone, Copy, PartialEq, Eq)]
 pub enum Slot {
     Held(usize),
     Free(usize),
     Full,
 }
 
-// How many slots a table of `len` words has: whole blocks, and no more than `most`.
-fn count(len: usize, most: usize, width: usize) -> usize
+// The lowest slot with the code, if there is one.
+fn seek(table: &[u64], most: usize, width: usize, code: u64) -> Option<usize>
     requires { 0 < width }
-    ensures { result ≡ slot_count most width len }
+    ensures { result ≡ found code (slots_of most width table.now) }
 {
-    let n = len / width;
-    if most < n { most } else { n }
-}
-
-// The lowest slot with the code, or how many slots there are.
-fn seek(table: &[u64], most: usize, width: usize, code: u64) -> usize
-    requires { 0 < width }
-    ensures { result ≡ lowest code (slots_of most width table.now) }
-{
-    let n = count(table.len(), most, width);
-    let mut k = 0;
-    let mut at = 0;
-    while k < n {
-        if table[at] == code {
-            return k;
+    let n = (table.len() / width).min(most);
+    for k in 0..n {
+        if table[width * k] == code {
+            return Some(k);
         }
-        k += 1;
-        at += width;
     }
-    n
+    None
 }
 
 // Where the code belongs in the table.
@@ -47,16 +35,13 @@ pub fn find(table: &[u64], most: usize, width: usize, code: u64) -> Slot
     requires { 0 < width }
     ensures { result ≡ place code (slots_of most width table.now) }
 {
-    let n = count(table.len(), most, width);
-    let held = seek(table, most, width, code);
-    if held < n {
-        return Slot::Held(held);
+    match seek(table, most, width, code) {
+        Some(k) => Slot::Held(k),
+        None => match seek(table, most, width, 0) {
+            Some(k) => Slot::Free(k),
+            None => Slot::Full,
+        },
     }
-    let free = seek(table, most, width, 0);
-    if free < n {
-        return Slot::Free(free);
-    }
-    Slot::Full
 }
 
 // Zeroes every slot; the words behind the slots stay.
@@ -64,11 +49,6 @@ pub fn clear(table: &mut [u64], most: usize, width: usize)
     requires { 0 < width }
     ensures { table.new ≡ cleared most width table.old }
 {
-    let n = count(table.len(), most, width);
-    let end = width * n;
-    let mut i = 0;
-    while i < end {
-        table[i] = 0;
-        i += 1;
-    }
+    let n = (table.len() / width).min(most);
+    table[..width * n].fill(0);
 }

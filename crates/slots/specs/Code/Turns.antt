@@ -1,10 +1,15 @@
 -- A message for a code by slots, as the code goes about it: one slot's words are lent on, and no other word can be reached. Assumes nothing.
-use Rattle.std.specs.Prelude.{ℕ, Bool, true, false, cond, List}
+use Rattle.std.specs.Prelude.{ℕ, Bool, true, false, cond, List, length, ltb, Some, None}
+use Rattle.std.specs.declared.option.Option.{Option as MayBe}
 use Rattle.std.proofs.Math.Option.{Option, none, some}
-use Rattle.slots.specs.Slots.{put}
+use Rattle.slots.specs.Slots.{lowest, put}
 use Rattle.slots.specs.Layout.{Layout, Landed, landed, block}
 use Rattle.slots.specs.declared.Slot.{Slot}
 use Rattle.slots.specs.declared.Slot.TheVariants.{Held, Free, Full}
+
+-- the lowest of the slots with the code, if there is one
+abbrev pub found : ℕ → List (List ℕ) → MayBe ℕ
+found c bs = cond (ltb (lowest c bs) (length bs)) (Some (lowest c bs)) None
 
 module _ {A : Type 0} (L : Layout A) where
   -- a code's own slot has to be sound; a free slot's value starts empty
