@@ -8,7 +8,7 @@ ghost use Rattle.feed.specs.Answers.{last_seq_num};
 ghost use Rattle.feed.specs.Steps.{advanced as advanced_at, counted, accepted, lent, state_of, out_of};
 ghost use Rattle.feed.specs.Code.Judging.{answered, on_tables};
 
-use super::messages::kind_in;
+use super::messages::Arrival;
 use super::{Datum, Feed, Given, Kind, Phase, Turn};
 use ground::Refusal;
 use wire::{Cursor, Unit};
@@ -80,10 +80,10 @@ impl Feed {
     ) -> Given
         ensures { CutSays self (lent books.old strips.old) seq internal message.now time result (lent books.new strips.new) }
     {
-        let kind = kind_in(message);
-        match self.verdict(kind, seq, internal, message, time) {
+        let arrival = Arrival::new(seq, internal, message);
+        match self.verdict(arrival, time) {
             Ok(Turn::Seen) => self.advanced(time).kept(1),
-            Ok(Turn::Taken) => self.act(books, strips, kind, internal, message, time),
+            Ok(Turn::Taken) => self.act(books, strips, arrival.kind, internal, message, time),
             Err(refusal) => self.refused(refusal),
         }
     }

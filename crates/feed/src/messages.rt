@@ -47,7 +47,7 @@ fn kind_of(t: u64) -> Kind
 }
 
 // What a message is.
-pub(crate) fn kind_in(m: &[u8]) -> Kind
+fn kind_in(m: &[u8]) -> Kind
     ensures { result ≡ kind_in m.now }
 {
     kind_of(wire::number_at::<2>(m, 2))
@@ -90,15 +90,6 @@ fn is_sized(kind: Kind, m: &[u8]) -> bool
     }
 }
 
-// Whether a message's size is wrong, or it has under 4 bytes or is not MsgSize long.
-#[tactic(auto, unfolding(crate::specs::Messages::wrong_size))]
-pub(crate) fn is_wrong(kind: Kind, m: &[u8]) -> bool
-    requires { kind ≡ kind_in m.now }
-    ensures { result ≡ wrong_size m.now }
-{
-    m.len() < 4 || wire::number_in::<2>(m, 0) as usize != m.len() || !is_sized(kind, m)
-}
-
 // What a logon's status does, where the status is listed.
 #[tactic(auto, unfolding(crate::specs::Messages::status_of, ground::specs::Choice::pick))]
 fn status_of(n: u64) -> Option<Status>
@@ -133,18 +124,51 @@ fn is_session_listed(session: Session, m: &[u8]) -> bool
     }
 }
 
-// Whether the fields of a message of the right size are listed.
-#[tactic(auto, using(crate::proofs::Parts::book_right), unfolding(crate::specs::Messages::listed))]
-pub(crate) fn is_listed(kind: Kind, m: &[u8]) -> bool
-    requires { (kind ≡ kind_in m.now) × (wrong_size m.now ≡ false) }
-    ensures { result ≡ listed kind m.now }
-{
-    match kind {
-        Kind::Session(session) => is_session_listed(session, m),
-        Kind::Market(datum) => match datum {
-            Datum::Book => books::is_listed(m),
-            Datum::Strip => strips::is_listed(m),
-            Datum::Other => true,
-        },
+// A message already cut, with its two numbers and what it is by its type.
+#[derive(Clone, Copy)]
+pub(crate) struct Arrival<'a> {
+    pub(crate) seq: u32,
+    pub(crate) internal: u32,
+    pub(crate) message: &'a [u8],
+    pub(crate) kind: Kind,
+    ghost typed: { kind ≡ kind_in message.now },
+}
+
+impl<'a> Arrival<'a> {
+    // The two numbers and a message already cut.
+    pub(crate) fn new(seq: u32, internal: u32, message: &'a [u8]) -> Arrival<'a>
+        ensures { (result.seq ≡ seq) × (result.internal ≡ internal) × (result.message.now ≡ message.now) }
+    {
+        Arrival {
+            seq,
+            internal,
+            message,
+            kind: kind_in(message),
+        }
+    }
+
+    // Whether the message's size is wrong, or it has under 4 bytes or is not MsgSize long.
+    #[tactic(auto, unfolding(crate::specs::Messages::wrong_size))]
+    pub(crate) fn is_wrong(self) -> bool
+        ensures { result ≡ wrong_size self.entry.message.now }
+    {
+        let m = self.message;
+        m.len() < 4 || wire::number_in::<2>(m, 0) as usize != m.len() || !is_sized(self.kind, m)
+    }
+
+    // Whether the fields of the message, which has the right size, are listed.
+    #[tactic(auto, using(crate::proofs::Parts::book_right), unfolding(crate::specs::Messages::listed))]
+    pub(crate) fn is_listed(self) -> bool
+        requires { wrong_size self.message.now ≡ false }
+        ensures { result ≡ listed self.entry.kind self.entry.message.now }
+    {
+        match self.kind {
+            Kind::Session(session) => is_session_listed(session, self.message),
+            Kind::Market(datum) => match datum {
+                Datum::Book => books::is_listed(self.message),
+                Datum::Strip => strips::is_listed(self.message),
+                Datum::Other => true,
+            },
+        }
     }
 }

@@ -1,11 +1,10 @@
 // What a feed decides by itself, lent no table: 10, 11, 12, 13, 14, 1, 15 (document 01, "Answer numbers").
 ghost use Rattle.std.specs.Prelude.{◌≡◌};
-ghost use Rattle.feed.specs.Messages.{kind as kind_in};
 ghost use Rattle.feed.specs.Events.{Message};
 ghost use Rattle.feed.specs.Answers.{allowed, seen};
 ghost use Rattle.feed.specs.Code.Judging.{hearing, judged, verdict as verdict_of};
 
-use super::messages::{is_listed, is_wrong};
+use super::messages::Arrival;
 use super::{Datum, Feed, Kind, Phase, Session, Turn};
 use ground::Refusal;
 
@@ -74,31 +73,23 @@ impl Feed {
 
     // What the feed by itself makes of a message: refused with 10 to 15, or not.
     #[tactic(auto, using(crate::proofs::Parts::verdict_is), unfolding(crate::specs::Answers::is_next))]
-    pub(crate) fn verdict(
-        self,
-        kind: Kind,
-        seq: u32,
-        internal: u32,
-        message: &[u8],
-        time: u64,
-    ) -> Result<Turn, Refusal>
-        requires { kind ≡ kind_in message.now }
-        ensures { judged result ≡ verdict_of self time (Message seq internal message.now) }
+    pub(crate) fn verdict(self, arrival: Arrival<'_>, time: u64) -> Result<Turn, Refusal>
+        ensures { judged result ≡ verdict_of self time (Message arrival.entry.seq arrival.entry.internal arrival.entry.message.now) }
     {
         self.hears(time)?;
-        if is_wrong(kind, message) {
+        if arrival.is_wrong() {
             return Err(Refusal::Size);
         }
-        if u64::from(seq) != self.next {
+        if u64::from(arrival.seq) != self.next {
             return Err(Refusal::Gap);
         }
-        if !is_allowed(kind, self.phase, internal) {
+        if !is_allowed(arrival.kind, self.phase, arrival.internal) {
             return Err(Refusal::Phase);
         }
-        if self.is_seen(kind, internal) {
+        if self.is_seen(arrival.kind, arrival.internal) {
             return Ok(Turn::Seen);
         }
-        if !is_listed(kind, message) {
+        if !arrival.is_listed() {
             return Err(Refusal::Unlisted);
         }
         Ok(Turn::Taken)
