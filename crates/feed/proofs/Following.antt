@@ -14,8 +14,7 @@ use Rattle.ground.proofs.Choices.{first_may}
 use Rattle.wire.proofs.Fronts.{unit_fits, unit_stays}
 use Rattle.feed.specs.Feeds.{deaf}
 use Rattle.feed.specs.Events.{Tables, State, Arrive, Overrun, time_of, News, Linked, More, Heartbeat, TooLong, Message, cut_from, news, on_message, news_size, offered}
-use Rattle.feed.specs.declared.Answer.{Answer}
-use Rattle.feed.specs.declared.Answer.TheVariants.{Keep, Lose, Take}
+use Rattle.feed.specs.Answers.{Answer, Keep, Lose, Take}
 use Rattle.feed.specs.Answers.{number, arrives, lacks_need, is_more, is_too_long, line_tests, table_tests, tests, answer_to}
 use Rattle.feed.specs.Steps.{Outcome, accepted, used_of, act, dropped_on, handed, outcome}
 use Rattle.feed.specs.Code.Judging.{answered}

@@ -7,13 +7,14 @@ use native.Mathlib.Omega.{arith}
 use native.Mathlib.Nat.{add_assoc}
 use lib.ListN.{length, take, drop, length-drop}
 use lib.Seq.{take_all, drop-drop}
+use lib.Dec.{leb}
 use mir.Syntax.{w64}
-use mir.Val.{Fits}
+use mir.Val.{Fits, bool_byte}
 use borrow.Author.Rules.{rules}
 use borrow.Author.Tests.{le-leb, lt-leb}
 use Rattle.ground.proofs.Bools.{split}
 use Rattle.feed.specs.Events.{Tables, State, Arrive}
-use Rattle.feed.specs.Steps.{Outcome, accepted, lent, state_of, out_of, outcome}
+use Rattle.feed.specs.Steps.{Outcome, accepted, state_of, out_of, outcome}
 use Rattle.feed.specs.Frames.{Framed, framed_of, opened, onward, through}
 use Rattle.feed.specs.declared.Feed.{Feed}
 use Rattle.feed.specs.declared.Given.{Given}
@@ -56,15 +57,14 @@ module _ (x : Frame) (t u : Tables) (s : List ℕ) (n : ℕ) (g : Given)
   same : out_of g u ≡ outcome (state_of x.feed t) (Arrive (drop x.used s) n)
   same = rw (take_all (length s - x.used) (drop x.used s) (rw (length-drop x.used s) (omega arith))) at e
 
-  pub stands_counted : g.answer ≤ 2
-      → framed_of (record { answer = g.answer; accepted = x.accepted + 1; used = x.used + g.used; feed = g.feed; dropped = x.dropped + g.dropped }) u ≡ onward s n (framed_of x t)
-  unfolding onward
-  stands_counted h = rw (← same, le-leb g.answer 2 h)
+  counts_as : (b : Bool) (a : ℕ) → a + bool_byte b ≡ cond b (a + 1) a
+  counts_as true a = refl
+  counts_as false a = omega arith
 
-  pub stands_ended : 2 < g.answer
-      → framed_of (record { answer = g.answer; accepted = x.accepted; used = x.used + g.used; feed = g.feed; dropped = x.dropped + g.dropped }) u ≡ onward s n (framed_of x t)
+  pub stands : (i : ℕ) → i ≡ bool_byte (leb g.answer 2)
+      → framed_of (record { answer = g.answer; accepted = x.accepted + i; used = x.used + g.used; feed = g.feed; dropped = x.dropped + g.dropped }) u ≡ onward s n (framed_of x t)
   unfolding onward
-  stands_ended h = rw (← same, lt-leb g.answer 2 h)
+  stands i h = rw (← same, h, counts_as (leb g.answer 2) x.accepted)
 
   pub used_adds : x.used ≤ length s → length s < 2 ^ 64 → Fits w64 (x.used + g.used)
   used_adds h l =
@@ -78,32 +78,29 @@ module _ (x : Frame) (t u : Tables) (s : List ℕ) (n : ℕ) (g : Given)
       let p : g.dropped ≡ (outcome y (Arrive (drop x.used s) n)).given.dropped = ap (λ (o : Outcome). o.given.dropped) same in
       record { fits = omega (arith, p, d, drops_fit y (drop x.used s) n, used_fits y (drop x.used s) n, length-drop x.used s) }
 
--- what the loop keeps: what is left to do from here ends where all of it ends
-pub record Goes (all : ℕ) (x₀ : Frame) (t₀ : Tables) (s : List ℕ) (n : ℕ) (x : Frame) (t : Tables) : Type 0 where
-  pub ends : through (all - x.accepted) s n (framed_of x t) ≡ through all s n (framed_of x₀ t₀)
+-- what the loop keeps after k units, each of them accepted: what is left to do from here ends where all of it ends
+pub record Goes (all k : ℕ) (x₀ : Frame) (t₀ : Tables) (s : List ℕ) (n : ℕ) (x : Frame) (t : Tables) : Type 0 where
+  pub ends : through (all - k) s n (framed_of x t) ≡ through all s n (framed_of x₀ t₀)
   pub inside : x.used ≤ length s
   pub few : x.dropped ≤ x.used
-  pub upto : x.accepted ≤ all
-  pub bounded : all < 2 ^ 64
-  pub same_books : length t.books ≡ length t₀.books
-  pub same_strips : length t.strips ≡ length t₀.strips
+  pub count : x.accepted ≡ k
 
-pub go_start : (f : Feed) (b c s : List ℕ) (n all : ℕ) → Fits w64 all → Goes all (opened f) (lent b c) s n (opened f) (lent b c)
-go_start f b c s n all h =
+pub go_start : (f : Feed) (t : Tables) (s : List ℕ) (n all : ℕ) → Goes all 0 (opened f) t s n (opened f) t
+go_start f t s n all =
     let z : all - 0 ≡ all = omega arith in
-    record { ends = rw z; inside = omega arith; few = omega arith; upto = omega arith; bounded = h.fits; same_books = refl; same_strips = refl }
+    record { ends = rw z; inside = omega arith; few = omega arith; count = refl }
 
-module _ (all : ℕ) (x₀ : Frame) (t₀ : Tables) (s : List ℕ) (n : ℕ) (x : Frame) (t : Tables) (g : Goes all x₀ t₀ s n x t) where
-  pub go_asks : x.accepted < all → (x.used ≤ length s) × (x.accepted < 18446744073709551615) × (x.dropped ≤ x.used)
-  go_asks l = (g.inside, omega (arith, g.bounded), g.few)
+module _ (all k : ℕ) (x₀ : Frame) (t₀ : Tables) (s : List ℕ) (n : ℕ) (x : Frame) (t : Tables) (g : Goes all k x₀ t₀ s n x t) where
+  pub go_asks : k < all → Fits w64 all → (x.used ≤ length s) × (x.accepted < 18446744073709551615) × (x.dropped ≤ x.used)
+  go_asks l h = (g.inside, omega (arith, g.count, h.fits), g.few)
 
-  pub go_done : all ≤ x.accepted → framed_of x t ≡ through all s n (framed_of x₀ t₀)
+  pub go_done : all ≤ k → framed_of x t ≡ through all s n (framed_of x₀ t₀)
   unfolding through
-  go_done l = let z : all - x.accepted ≡ 0 = omega arith in rw z at g.ends
+  go_done l = let z : all - k ≡ 0 = omega arith in rw z at g.ends
 
-  module _ (l : x.accepted < all) (y : Frame) (u : Tables) (e : framed_of y u ≡ onward s n (framed_of x t)) where
-    left : through (suc (all - x.accepted - 1)) s n (framed_of x t) ≡ through all s n (framed_of x₀ t₀)
-    left = let z : all - x.accepted ≡ suc (all - x.accepted - 1) = omega arith in rw z at g.ends
+  module _ (l : k < all) (y : Frame) (u : Tables) (e : framed_of y u ≡ onward s n (framed_of x t)) where
+    left : through (suc (all - k - 1)) s n (framed_of x t) ≡ through all s n (framed_of x₀ t₀)
+    left = let z : all - k ≡ suc (all - k - 1) = omega arith in rw z at g.ends
 
     answered_as : y.answer ≡ (onward s n (framed_of x t)).frame.answer
     answered_as = ap (λ (o : Framed). o.frame.answer) e
@@ -111,32 +108,23 @@ module _ (all : ℕ) (x₀ : Frame) (t₀ : Tables) (s : List ℕ) (n : ℕ) (x 
     taken : y.answer ≤ 2 → accepted (onward s n (framed_of x t)).frame.answer ≡ true
     taken h = rw (← answered_as) (le-leb y.answer 2 h)
 
-    counted_on : y.answer ≤ 2 → y.accepted ≡ x.accepted + 1
-    counted_on h = ap (λ (o : Framed). o.frame.accepted) e ∙ onward_counts s n (framed_of x t) (taken h)
-
-    pub go_less : y.answer ≤ 2 → all - y.accepted < all - x.accepted
-    go_less h = let p = counted_on h in omega (arith, p)
-
-    pub go_more : y.answer ≤ 2 → length u.books ≡ length t.books → length u.strips ≡ length t.strips → Goes all x₀ t₀ s n y u
-    go_more h b c =
-        let p = counted_on h in
-        let z : all - x.accepted - 1 ≡ all - y.accepted = omega (arith, p) in
+    pub go_more : y.answer ≤ 2 → Goes all (k + 1) x₀ t₀ s n y u
+    go_more h =
+        let p : y.accepted ≡ x.accepted + 1 = ap (λ (o : Framed). o.frame.accepted) e ∙ onward_counts s n (framed_of x t) (taken h) in
+        let z : all - k - 1 ≡ all - (k + 1) = omega arith in
         let w : y.used ≡ (onward s n (framed_of x t)).frame.used = ap (λ (o : Framed). o.frame.used) e in
         let v : y.dropped ≡ (onward s n (framed_of x t)).frame.dropped = ap (λ (o : Framed). o.frame.dropped) e in
         record {
-          ends = rw (← z, e) (sym (through_on s n (framed_of x t) (all - x.accepted - 1) (taken h)) ∙ left);
+          ends = rw (← z, e) (sym (through_on s n (framed_of x t) (all - k - 1) (taken h)) ∙ left);
           inside = rw w (onward_fits s n (framed_of x t) g.inside);
           few = rw (w, v) (onward_few s n (framed_of x t) g.few);
-          upto = omega (arith, p);
-          bounded = g.bounded;
-          same_books = b ∙ g.same_books;
-          same_strips = c ∙ g.same_strips;
+          count = omega (arith, p, g.count);
         }
 
     pub go_stop : 2 < y.answer → framed_of y u ≡ through all s n (framed_of x₀ t₀)
     go_stop h =
         let q : accepted (onward s n (framed_of x t)).frame.answer ≡ false = rw (← answered_as) (lt-leb y.answer 2 h) in
-        e ∙ sym (through_ends s n (framed_of x t) (all - x.accepted - 1) q) ∙ left
+        e ∙ sym (through_ends s n (framed_of x t) (all - k - 1) q) ∙ left
 
 -- what came last was accepted, or not
 abbrev pub Well : Framed → Type 0
@@ -243,4 +231,4 @@ module _ (p q d : ℕ) (s : List ℕ) (n : ℕ) where
       (λ k y z e on. through_on s n (further p q d y) k (rw (onward_further y) e) ∙ ap (through k s n) (onward_further y) ∙ on)
       (λ k y e. through_ends s n (further p q d y) k (rw (onward_further y) e) ∙ onward_further y)
 
-pub ruleset frames = (rules, stands_counted, stands_ended, used_adds, dropped_adds, go_start, go_asks, go_done, go_less, go_more, go_stop)
+pub ruleset frames = (rules, stands, used_adds, dropped_adds, go_start, go_asks, go_done, go_more, go_stop)

@@ -28,8 +28,7 @@ use Rattle.feed.specs.declared.Kind.{Kind}
 use Rattle.feed.specs.declared.Kind.TheVariants.{Session, Market}
 use Rattle.feed.specs.declared.Datum.TheVariants.{Book, Strip, Other}
 use Rattle.feed.specs.declared.Feed.{Feed}
-use Rattle.feed.specs.declared.Answer.{Answer}
-use Rattle.feed.specs.declared.Answer.TheVariants.{Keep, Lose, Spoil, Skip, Take}
+use Rattle.feed.specs.Answers.{Answer, Keep, Lose, Spoil, Skip, Take}
 use Rattle.feed.proofs.Parts.{book_right}
 
 -- an answer with a number; one that leaves the last word to the tables

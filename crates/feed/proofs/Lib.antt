@@ -2,5 +2,4 @@ pub mod Parts
 pub mod Laws
 pub mod Rows
 pub mod Following
-pub mod Whys
 pub mod Framing

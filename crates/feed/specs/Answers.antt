@@ -14,10 +14,13 @@ use Rattle.feed.specs.declared.Session.TheVariants.{SendKey, Logon, Logout, Refr
 use Rattle.feed.specs.declared.Datum.TheVariants.{Book, Strip, Other}
 use Rattle.feed.specs.declared.Feed.{Feed}
 use Rattle.feed.specs.declared.Link.TheVariants.{Fresh, Resuming}
-use Rattle.feed.specs.declared.Answer.{Answer}
-use Rattle.feed.specs.declared.Answer.TheVariants.{Keep, Lose, Spoil, Skip, Take}
 
--- the number of an answer (the kinds of answers are declared in src/lib.rt: Answer)
+-- an answer, by what document 01's table says of the feed afterwards: unchanged; Lost; Lost and not whole; the number advances, heard; as told of
+-- what is taken, heard
+pub data Answer : Type 0 where
+  Keep Lose Spoil Skip Take : (n : ℕ) → Answer
+
+-- the number of an answer
 unfoldable pub number : Answer → ℕ
 number (Keep n) = n
 number (Lose n) = n

@@ -10,8 +10,6 @@ use Rattle.feed.specs.declared.Kind.TheVariants.{Session, Market}
 use Rattle.feed.specs.declared.Session.TheVariants.{SendKey, Logon, Logout, Refresh, Complete, Request}
 use Rattle.feed.specs.declared.Datum.{Datum}
 use Rattle.feed.specs.declared.Datum.TheVariants.{Book, Strip, Other}
-use Rattle.feed.specs.declared.Status.{Status}
-use Rattle.feed.specs.declared.Status.TheVariants.{Opens, Refills, Stays, Closes, Unlisted}
 
 -- what a market message brings: a book's entries; a price strip's values (document 02, request 2: types 40, 41, 43, 56, 62); something else
 unfoldable pub datum_of : ℕ → Datum
@@ -74,6 +72,9 @@ wrong_size m = ltb (length m) least || not (eqb (msg_size m) (length m)) || not 
 -- a logon's status (byte 6): "0 or 2: Live .. 101: cleared, Refreshing. 1, 3, 8: stays. 5, 6, 100, 104, 105: Closed"
 abbrev pub logon_status : List ℕ → ℕ
 logon_status m = field 6 1 m
+
+pub data Status : Type 0 where
+  Opens Refills Stays Closes Unlisted : Status
 
 unfoldable pub status_of : ℕ → Status
 status_of n =

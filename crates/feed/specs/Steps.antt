@@ -2,10 +2,10 @@
 use Rattle.std.specs.Prelude.{ℕ, ◌+◌, Bool, true, false, cond, ◌&&◌, List, leb}
 use Rattle.books.specs.Table.{books_after, drops_in}
 use Rattle.strips.specs.Table.{strips_after}
-use Rattle.feed.specs.Messages.{kind, market, status_of, logon_status, last_internal}
+use Rattle.feed.specs.Messages.{kind, market, Status, Opens, Refills, Stays, Closes, Unlisted, status_of, logon_status, last_internal}
 use Rattle.feed.specs.Feeds.{is, in_phase, next_is, internal_is, heard_at, whole_is, fresh_is}
 use Rattle.feed.specs.Events.{Tables, cleared_tables, State, Event, time_of, News, Linked, More, Heartbeat, TooLong, Message, news, offered}
-use Rattle.feed.specs.Answers.{number, reply}
+use Rattle.feed.specs.Answers.{Answer, Keep, Lose, Spoil, Skip, Take, number, reply}
 use Rattle.feed.specs.declared.Phase.TheVariants.{WaitKey, WaitLogon, Refreshing, Live, Lost, Closed}
 use Rattle.feed.specs.declared.Kind.{Kind}
 use Rattle.feed.specs.declared.Kind.TheVariants.{Session, Market}
@@ -13,14 +13,10 @@ use Rattle.feed.specs.declared.Session as session
 use Rattle.feed.specs.declared.Session.TheVariants.{SendKey, Logon, Logout, Refresh, Complete, Request}
 use Rattle.feed.specs.declared.Datum.{Datum}
 use Rattle.feed.specs.declared.Datum.TheVariants.{Book, Strip, Other}
-use Rattle.feed.specs.declared.Status.{Status}
-use Rattle.feed.specs.declared.Status.TheVariants.{Opens, Refills, Stays, Closes, Unlisted}
 use Rattle.feed.specs.declared.Link.{Link}
 use Rattle.feed.specs.declared.Link.TheVariants.{Fresh, Resuming}
 use Rattle.feed.specs.declared.Feed.{Feed}
 use Rattle.feed.specs.declared.Given.{Given}
-use Rattle.feed.specs.declared.Answer.{Answer}
-use Rattle.feed.specs.declared.Answer.TheVariants.{Keep, Lose, Spoil, Skip, Take}
 
 -- the feed of a state changed, its tables as they are
 abbrev pub on_feed : (Feed → Feed) → State → State

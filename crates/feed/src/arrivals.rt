@@ -8,10 +8,10 @@ ghost use Rattle.feed.specs.Events.{cleared_tables, Cut};
 ghost use Rattle.feed.specs.Promised.{ArriveSays, CutSays, OverrunSays};
 ghost use Rattle.feed.specs.Answers.{last_seq_num};
 ghost use Rattle.feed.specs.Steps.{advanced as advanced_at, counted, accepted, lent, state_of, out_of};
-ghost use Rattle.feed.specs.Code.Judging.{answered, dropped_is, on_tables, unmet as unmet_by};
+ghost use Rattle.feed.specs.Code.Judging.{answered, dropped_is, on_tables};
 
-use super::messages::kind_in;
-use super::{Answer, Datum, Feed, Given, Kind, Phase};
+use super::messages::Arrival;
+use super::{Datum, Feed, Given, Kind, Phase, Turn};
 use ground::Refusal;
 use wire::{Cursor, Unit};
 
@@ -74,6 +74,7 @@ impl Feed {
     }
 
     // The two numbers and a message already cut: never More, never a heartbeat, no bytes used.
+    #[tactic(auto, using(crate::proofs::Rows::rows))]
     pub fn arrive_cut(
         self,
         books: &mut [u64],
@@ -85,63 +86,43 @@ impl Feed {
     ) -> Given
         ensures { CutSays self (lent books.old strips.old) seq internal message.now time result (lent books.new strips.new) }
     {
-        let kind = kind_in(message);
-        let verdict = self.verdict(kind, seq, internal, message, time);
-        match verdict {
-            Answer::Keep(n) => self.kept(n),
-            Answer::Lose(n) => self.lost(n),
-            Answer::Spoil(n) => self.spoilt(n),
-            Answer::Skip(n) => self.advanced(time).kept(n),
-            Answer::Take(_) => self.act(books, strips, kind, internal, message, time),
+        let arrival = Arrival::new(seq, internal, message);
+        match self.verdict(arrival, time) {
+            Ok(Turn::Seen) => self.advanced(time).kept(1),
+            Ok(Turn::Taken) => self.act(books, strips, arrival.kind, internal, message, time),
+            Err(refusal) => self.refused(refusal),
         }
-    }
-
-    // The answer to a unit that is no message: 10, 11, 0 for a heartbeat, and else 3.
-    fn unmet(self, unit: Unit, time: u64) -> u64
-        ensures { result ≡ unmet_by self time unit }
-    {
-        let refused = self.refusal(time);
-        if 0 < refused {
-            return refused;
-        }
-        if let Unit::Heartbeat = unit {
-            return 0;
-        }
-        3
     }
 
     // An arrival of bytes.
+    #[tactic(auto, using(crate::proofs::Rows::rows))]
     pub fn arrive(self, books: &mut [u64], strips: &mut [u64], bytes: &[u8], time: u64) -> Given
         ensures { ArriveSays self (lent books.old strips.old) bytes.now time result (lent books.new strips.new) }
     {
         let front = Cursor { at: 0 };
-        let unit = front.read(bytes);
-        let Unit::Message {
-            seq,
-            internal,
-            size,
-        } = unit
-        else {
-            let answer = self.unmet(unit, time);
-            if answer == 0 {
-                return self.heard_at(time).kept(0).using(wire::HEADER_BYTES);
+        match front.read(bytes) {
+            Unit::Message {
+                seq,
+                internal,
+                size,
+            } => {
+                let message = front.message(bytes, size);
+                self.arrive_cut(books, strips, seq, internal, message, time)
+                    .using(wire::HEADER_BYTES + size)
             }
-            return self.kept(answer);
-        };
-        let used = wire::HEADER_BYTES + size;
-        let message = front.message(bytes, size);
-        self.arrive_cut(books, strips, seq, internal, message, time)
-            .using(used)
+            Unit::Heartbeat => match self.hears(time) {
+                Ok(()) => self.heard_at(time).kept(0).using(wire::HEADER_BYTES),
+                Err(refusal) => self.refused(refusal),
+            },
+            Unit::More => self.refused(self.hears(time).err().unwrap_or(Refusal::More)),
+        }
     }
 
     // What is longer than the holding buffer: 10, 11, or 22 and Lost.
+    #[tactic(auto, using(crate::proofs::Rows::rows))]
     pub fn overrun(self, time: u64) -> Given
         ensures { OverrunSays self time result }
     {
-        let refused = self.refusal(time);
-        if 0 < refused {
-            return self.kept(refused);
-        }
-        self.lost(22)
+        self.refused(self.hears(time).err().unwrap_or(Refusal::TooLong))
     }
 }

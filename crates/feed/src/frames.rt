@@ -13,27 +13,20 @@ impl Frame {
         requires { (self.used ≤ length bytes.now) × (self.accepted < 18446744073709551615) × (self.dropped ≤ self.used) }
         ensures { framed_of result (lent books.new strips.new) ≡ onward_in bytes.now time (framed_of self (lent books.old strips.old)) }
     {
-        let feed = self.feed;
-        let used = self.used;
-        let given = feed.arrive(books, strips, &bytes[used..], time);
-        let feed = given.feed;
-        let mut frame = Frame {
+        let given = self.feed.arrive(books, strips, &bytes[self.used..], time);
+        Frame {
             answer: given.answer,
-            accepted: self.accepted,
-            used: used + given.used,
-            feed,
+            accepted: self.accepted + u64::from(given.answer <= 2),
+            used: self.used + given.used,
+            feed: given.feed,
             dropped: self.dropped + given.dropped,
-        };
-        if given.answer <= 2 {
-            frame.accepted = self.accepted + 1;
-            return frame;
         }
-        frame
     }
 }
 
 impl Feed {
     // At most `allowed` units from the front of the bytes, until one is not accepted.
+    #[tactic(auto, using(crate::proofs::Framing::frames))]
     pub fn arrive_frame(
         self,
         books: &mut [u64],
@@ -51,7 +44,7 @@ impl Feed {
             feed: self,
             dropped: 0,
         };
-        while frame.accepted < allowed {
+        for _ in 0..allowed {
             frame = frame.onward(books, strips, bytes, time);
             if 2 < frame.answer {
                 return frame;

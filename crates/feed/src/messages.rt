@@ -2,7 +2,8 @@
 ghost use Rattle.std.specs.Prelude.{◌≡◌, false, [], ◌∷◌};
 ghost use Rattle.ground.specs.Choice.{one_of};
 ghost use Rattle.ladder.specs.Message.{book_sized};
-ghost use Rattle.feed.specs.Messages.{datum_of, kind_of, kind as kind_in, sized, wrong_size, status_of, listed_status, listed};
+ghost use Rattle.feed.specs.Messages.{datum_of, kind_of, kind as kind_in, sized, wrong_size, status_of, logon_status, listed};
+ghost use Rattle.feed.specs.Code.Judging.{read_as};
 
 use super::{Datum, Kind, Session, Status};
 
@@ -11,11 +12,12 @@ const CONTROL_BYTES: usize = 8;
 
 const STATUS_AT: usize = 4;
 
-pub(crate) const LOGON_STATUS_AT: usize = 6;
+const LOGON_STATUS_AT: usize = 6;
 
 pub(crate) const LAST_AT: usize = 4;
 
 // What a market message of a type brings.
+#[tactic(auto, unfolding(crate::specs::Messages::datum_of, ground::specs::Choice::pick))]
 fn datum_of(t: u64) -> Datum
     ensures { result ≡ datum_of t }
 {
@@ -29,54 +31,52 @@ fn datum_of(t: u64) -> Datum
 }
 
 // What a message is, by its type.
+#[tactic(auto, unfolding(crate::specs::Messages::kind_of, ground::specs::Choice::pick))]
 fn kind_of(t: u64) -> Kind
     ensures { result ≡ kind_of t }
 {
     match t {
         203 => Kind::Session(Session::Complete),
-        1101 => Kind::Session(Session::Request),
+        1101 | 1201 => Kind::Session(Session::Request),
         1102 => Kind::Session(Session::Logon),
         1103 => Kind::Session(Session::Logout),
         1105 => Kind::Session(Session::SendKey),
-        1201 => Kind::Session(Session::Request),
         1202 => Kind::Session(Session::Refresh),
         _ => Kind::Market(datum_of(t)),
     }
 }
 
 // What a message is.
-pub(crate) fn kind_in(m: &[u8]) -> Kind
+fn kind_in(m: &[u8]) -> Kind
     ensures { result ≡ kind_in m.now }
 {
     kind_of(wire::number_at::<2>(m, 2))
 }
 
 // Whether a book message has 12 + 24 x NoEntries bytes.
+#[tactic(auto, unfolding(ladder::specs::Message::book_sized))]
 fn is_book_sized(m: &[u8]) -> bool
     ensures { result ≡ book_sized m.now }
 {
-    if m.len() < ladder::ENTRIES_AT {
-        return false;
-    }
     let n = wire::number_at::<1>(m, ladder::NO_ENTRIES_AT) as usize;
     m.len() == ladder::ENTRIES_AT + ladder::ENTRY_BYTES * n
 }
 
 // Whether a session's message has the size of its type.
+#[tactic(auto, unfolding(crate::specs::Messages::sized))]
 fn is_session_sized(session: Session, m: &[u8]) -> bool
     ensures { result ≡ sized (Kind.Session session) m.now }
 {
     match session {
-        Session::SendKey => true,
-        Session::Logon => m.len() == CONTROL_BYTES,
-        Session::Logout => m.len() == CONTROL_BYTES,
-        Session::Refresh => m.len() == CONTROL_BYTES,
-        Session::Complete => m.len() == CONTROL_BYTES,
-        Session::Request => true,
+        Session::Logon | Session::Logout | Session::Refresh | Session::Complete => {
+            m.len() == CONTROL_BYTES
+        }
+        Session::SendKey | Session::Request => true,
     }
 }
 
 // Whether a message has the size of its type.
+#[tactic(auto, unfolding(crate::specs::Messages::sized))]
 fn is_sized(kind: Kind, m: &[u8]) -> bool
     ensures { result ≡ sized kind m.now }
 {
@@ -90,92 +90,85 @@ fn is_sized(kind: Kind, m: &[u8]) -> bool
     }
 }
 
-// Whether a message's size is wrong, or it has under 4 bytes or is not MsgSize long.
-pub(crate) fn is_wrong(kind: Kind, m: &[u8]) -> bool
-    requires { kind ≡ kind_in m.now }
-    ensures { result ≡ wrong_size m.now }
-{
-    if m.len() < 4 {
-        return true;
-    }
-    let size = wire::number_in::<2>(m, 0) as usize;
-    if size == m.len() {
-        return !is_sized(kind, m);
-    }
-    true
-}
-
-// What a logon's status does.
-pub(crate) fn status_of(n: u64) -> Status
-    ensures { result ≡ status_of n }
+// What a logon's status does, where the status is listed.
+#[tactic(auto, unfolding(crate::specs::Messages::status_of, ground::specs::Choice::pick))]
+fn status_of(n: u64) -> Option<Status>
+    ensures { read_as result ≡ status_of n }
 {
     match n {
-        0 => Status::Opens,
-        2 => Status::Opens,
-        101 => Status::Refills,
-        1 => Status::Stays,
-        3 => Status::Stays,
-        8 => Status::Stays,
-        5 => Status::Closes,
-        6 => Status::Closes,
-        100 => Status::Closes,
-        104 => Status::Closes,
-        105 => Status::Closes,
-        _ => Status::Unlisted,
+        0 | 2 => Some(Status::Opens),
+        101 => Some(Status::Refills),
+        1 | 3 | 8 => Some(Status::Stays),
+        5 | 6 | 100 | 104 | 105 => Some(Status::Closes),
+        _ => None,
     }
 }
 
-// Whether a logon's status is listed.
-fn is_listed_status(status: Status) -> bool
-    ensures { result ≡ listed_status status }
+// What a logon does, where its status is listed.
+pub(crate) fn status_in(m: &[u8]) -> Option<Status>
+    ensures { read_as result ≡ status_of (logon_status m.now) }
 {
-    match status {
-        Status::Opens => true,
-        Status::Refills => true,
-        Status::Stays => true,
-        Status::Closes => true,
-        Status::Unlisted => false,
-    }
-}
-
-// Whether a logout's status is 6, 102 or 103.
-fn is_goodbye(n: u64) -> bool
-    ensures { result ≡ one_of n (6 ∷ 102 ∷ 103 ∷ []) }
-{
-    if n == 6 {
-        return true;
-    }
-    if n == 102 {
-        return true;
-    }
-    n == 103
+    status_of(wire::number_at::<1>(m, LOGON_STATUS_AT))
 }
 
 // Whether a session's message has a status that is listed, where it has one.
+#[tactic(auto, unfolding(crate::specs::Messages::listed, crate::specs::Messages::listed_status, ground::specs::Choice::one_of))]
 fn is_session_listed(session: Session, m: &[u8]) -> bool
     ensures { result ≡ listed (Kind.Session session) m.now }
 {
     match session {
-        Session::SendKey => true,
-        Session::Logon => is_listed_status(status_of(wire::number_at::<1>(m, LOGON_STATUS_AT))),
-        Session::Logout => is_goodbye(wire::number_at::<1>(m, STATUS_AT)),
+        Session::Logon => status_in(m).is_some(),
+        Session::Logout => matches!(wire::number_at::<1>(m, STATUS_AT), 6 | 102 | 103),
         Session::Refresh => wire::number_at::<1>(m, STATUS_AT) == 0,
-        Session::Complete => true,
-        Session::Request => true,
+        Session::SendKey | Session::Complete | Session::Request => true,
     }
 }
 
-// Whether the fields of a message of the right size are listed.
-pub(crate) fn is_listed(kind: Kind, m: &[u8]) -> bool
-    requires { (kind ≡ kind_in m.now) × (wrong_size m.now ≡ false) }
-    ensures { result ≡ listed kind m.now }
-{
-    match kind {
-        Kind::Session(session) => is_session_listed(session, m),
-        Kind::Market(datum) => match datum {
-            Datum::Book => books::is_listed(m),
-            Datum::Strip => strips::is_listed(m),
-            Datum::Other => true,
-        },
+// A message already cut, with its two numbers and what it is by its type.
+#[derive(Clone, Copy)]
+pub(crate) struct Arrival<'a> {
+    pub(crate) seq: u32,
+    pub(crate) internal: u32,
+    pub(crate) message: &'a [u8],
+    pub(crate) kind: Kind,
+    ghost typed: { kind ≡ kind_in message.now },
+}
+
+impl<'a> Arrival<'a> {
+    // The two numbers and a message already cut.
+    pub(crate) fn new(seq: u32, internal: u32, message: &'a [u8]) -> Arrival<'a>
+        ensures { (result.seq ≡ seq) × (result.internal ≡ internal) × (result.message.now ≡ message.now) }
+    {
+        Arrival {
+            seq,
+            internal,
+            message,
+            kind: kind_in(message),
+        }
+    }
+
+    // Whether the message's size is wrong, or it has under 4 bytes or is not MsgSize long.
+    #[tactic(auto, unfolding(crate::specs::Messages::wrong_size))]
+    pub(crate) fn is_wrong(self) -> bool
+        ensures { result ≡ wrong_size self.entry.message.now }
+    {
+        let m = self.message;
+        m.len() < 4 || wire::number_in::<2>(m, 0) as usize != m.len() || !is_sized(self.kind, m)
+    }
+
+    // Whether the fields of the message, which has the right size, are listed.
+    #[tactic(auto, using(crate::proofs::Parts::book_right), unfolding(crate::specs::Messages::listed))]
+    pub(crate) fn is_listed(self) -> bool
+        requires { wrong_size self.message.now ≡ false }
+        ensures { result ≡ listed self.entry.kind self.entry.message.now }
+    {
+        match self.kind {
+            Kind::Session(session) => is_session_listed(session, self.message),
+            Kind::Market(datum) => match datum {
+                Datum::Book => books::is_listed(self.message),
+                Datum::Strip => strips::is_listed(self.message),
+                Datum::Other => true,
+            },
+        }
     }
 }

@@ -159,7 +159,7 @@ unfolding feed_Answers.number feed_Answers.arrives feed_Answers.lacks_need feed_
 feed_answers = 0
 
 unfoldable feed_code_judging : ℕ
-unfolding feed_Code_Judging.beats feed_Code_Judging.on_tables
+unfolding feed_Code_Judging.on_tables
 feed_code_judging = 0
 
 unfoldable feed_events : ℕ

@@ -9,8 +9,8 @@ use Rattle.feed.specs.Messages.{kind, market, status_of, logon_status}
 use Rattle.feed.specs.Feeds.{is, internal_is}
 use Rattle.feed.specs.Events.{Tables, State, News, Linked, More, Heartbeat, TooLong, Message, news, time_of}
 use Rattle.feed.specs.Answers.{no_slot_for, misfits_for, reply}
-use Rattle.feed.specs.declared.Answer.{Answer}
-use Rattle.feed.specs.declared.Answer.TheVariants.{Keep, Lose, Spoil, Skip, Take}
+use Rattle.feed.specs.Answers.{Answer}
+use Rattle.feed.specs.Answers.{Keep, Lose, Spoil, Skip, Take}
 use Rattle.feed.specs.Steps.{logged_on, does, counted, taken, act, handed, outcome}
 use Rattle.feed.specs.declared.Phase.{Phase}
 use Rattle.feed.specs.declared.Phase.TheVariants.{Idle, WaitKey, WaitLogon, Refreshing, Live, Lost, Closed}
@@ -19,8 +19,8 @@ use Rattle.feed.specs.declared.Kind.TheVariants.{Session, Market}
 use Rattle.feed.specs.declared.Session.TheVariants.{SendKey, Logon, Logout, Refresh, Complete, Request}
 use Rattle.feed.specs.declared.Datum.{Datum}
 use Rattle.feed.specs.declared.Datum.TheVariants.{Book, Strip, Other}
-use Rattle.feed.specs.declared.Status.{Status}
-use Rattle.feed.specs.declared.Status.TheVariants.{Opens, Refills, Stays, Closes, Unlisted}
+use Rattle.feed.specs.Messages.{Status}
+use Rattle.feed.specs.Messages.{Opens, Refills, Stays, Closes, Unlisted}
 use Rattle.feed.specs.declared.Feed.{Feed}
 use Rattle.promises.specs.Runs.{Sizes, zeroed, start, run, Deed, Took, History, no_history, note_status, note_taken, perform, replay}
 use Rattle.promises.specs.Decisions as D

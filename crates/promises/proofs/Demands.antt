@@ -43,8 +43,8 @@ use Rattle.feed.specs.declared.Kind.{Kind}
 use Rattle.feed.specs.declared.Kind.TheVariants.{Market}
 use Rattle.feed.specs.declared.Datum.{Datum}
 use Rattle.feed.specs.declared.Datum.TheVariants.{Book as BookMessage, Strip}
-use Rattle.feed.specs.declared.Answer.{Answer}
-use Rattle.feed.specs.declared.Answer.TheVariants.{Keep, Lose, Spoil, Skip, Take}
+use Rattle.feed.specs.Answers.{Answer}
+use Rattle.feed.specs.Answers.{Keep, Lose, Spoil, Skip, Take}
 use Rattle.feed.proofs.Laws.{numbered}
 use Rattle.promises.specs.Refusals.{keeping, losing, spoiling}
 use Rattle.feed.specs.declared.Given.{Given}

@@ -39,8 +39,8 @@ use Rattle.feed.specs.Steps.{drops, news_drops, dropped_on, handed, outcome}
 use Rattle.feed.specs.declared.Kind.{Kind}
 use Rattle.feed.specs.declared.Kind.TheVariants.{Session, Market}
 use Rattle.feed.specs.declared.Datum.TheVariants.{Book as Books, Strip, Other}
-use Rattle.feed.specs.declared.Answer.{Answer}
-use Rattle.feed.specs.declared.Answer.TheVariants.{Keep, Lose, Spoil, Skip, Take}
+use Rattle.feed.specs.Answers.{Answer}
+use Rattle.feed.specs.Answers.{Keep, Lose, Spoil, Skip, Take}
 use Rattle.lines.specs.Scraps.{Hearing}
 use Rattle.promises.specs.Runs.{after, run, trace}
 use Rattle.promises.specs.Frames.{dropped_in}

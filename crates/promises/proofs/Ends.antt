@@ -19,8 +19,8 @@ use Rattle.feed.specs.Steps.{taken, act, accepted, handed, outcome}
 use Rattle.feed.specs.Program.{buffer_size, table_words, strip_words, Stand, follow, connection}
 use Rattle.feed.specs.declared.Feed.{Feed}
 use Rattle.feed.specs.declared.Given.{Given}
-use Rattle.feed.specs.declared.Answer.{Answer}
-use Rattle.feed.specs.declared.Answer.TheVariants.{Keep, Lose, Spoil, Skip, Take}
+use Rattle.feed.specs.Answers.{Answer}
+use Rattle.feed.specs.Answers.{Keep, Lose, Spoil, Skip, Take}
 use Rattle.feed.specs.declared.Link.TheVariants.{Fresh}
 use Rattle.feed.proofs.Laws.{used_fits}
 use Rattle.feed.proofs.Following.{used_some}

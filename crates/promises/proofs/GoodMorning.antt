@@ -26,8 +26,8 @@ use Rattle.feed.specs.Messages.{kind, on_market, market, wrong_size, listed, sta
 use Rattle.feed.specs.Feeds.{is, deaf, internal_is, badge_no, badge, badge_of, listed_limit}
 use Rattle.feed.specs.Events.{Tables, cleared_tables, State, Event, Connect, News, Linked, More, Heartbeat, TooLong, Message, news, time_of, on_message}
 use Rattle.feed.specs.Answers.{number, arrives, lacks_need, is_more, is_too_long, last_seq_num, is_next, allowed, seen, unsound_for, no_slot_for, misfits_for, passed, line_tests, table_tests, tests, answer_to}
-use Rattle.feed.specs.declared.Answer.{Answer}
-use Rattle.feed.specs.declared.Answer.TheVariants.{Skip, Take}
+use Rattle.feed.specs.Answers.{Answer}
+use Rattle.feed.specs.Answers.{Skip, Take}
 use Rattle.feed.specs.Steps.{on_feed, cleared, enter_live, logged_on, tables_after, does, advanced, counted, taken, act, accepted, handed, outcome}
 use Rattle.feed.specs.declared.Phase.{Phase}
 use Rattle.feed.specs.declared.Phase.TheVariants.{WaitKey, WaitLogon, Refreshing, Live}
@@ -37,8 +37,8 @@ use Rattle.feed.specs.declared.Session.{Session as SessionOf}
 use Rattle.feed.specs.declared.Session.TheVariants.{SendKey, Logon, Logout, Refresh, Complete, Request}
 use Rattle.feed.specs.declared.Datum.{Datum}
 use Rattle.feed.specs.declared.Datum.TheVariants.{Book, Strip, Other}
-use Rattle.feed.specs.declared.Status.{Status}
-use Rattle.feed.specs.declared.Status.TheVariants.{Opens, Refills, Stays, Closes, Unlisted}
+use Rattle.feed.specs.Messages.{Status}
+use Rattle.feed.specs.Messages.{Opens, Refills, Stays, Closes, Unlisted}
 use Rattle.feed.specs.declared.Feed.{Feed}
 use Rattle.feed.specs.declared.Link.TheVariants.{Fresh}
 use Rattle.promises.specs.Runs.{Sizes, start, after, run, trace, Deed, Took, History, no_history, note_heard, note_over, note_news, note_status, note_taken, note, recall, history, replay_on}

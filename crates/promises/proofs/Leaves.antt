@@ -17,15 +17,15 @@ use Rattle.books.proofs.Frames.{books_codes}
 use Rattle.feed.specs.Messages.{kind, on_market, tabled, status_of, logon_status}
 use Rattle.feed.specs.Events.{Tables, cleared_tables, State, Event, News, Linked, More, Heartbeat, TooLong, Message, news, time_of, on_message}
 use Rattle.feed.specs.Answers.{number, passed, answer_to, reply}
-use Rattle.feed.specs.declared.Answer.{Answer}
-use Rattle.feed.specs.declared.Answer.TheVariants.{Keep, Lose, Spoil, Skip, Take}
+use Rattle.feed.specs.Answers.{Answer}
+use Rattle.feed.specs.Answers.{Keep, Lose, Spoil, Skip, Take}
 use Rattle.feed.specs.Steps.{clears_on, clears, cleared, logged_on, tables_after, does, taken, act, handed, outcome}
 use Rattle.feed.specs.declared.Kind.{Kind}
 use Rattle.feed.specs.declared.Kind.TheVariants.{Session, Market}
 use Rattle.feed.specs.declared.Session.TheVariants.{SendKey, Logon, Logout, Refresh, Complete, Request}
 use Rattle.feed.specs.declared.Datum.TheVariants.{Book, Strip, Other}
-use Rattle.feed.specs.declared.Status.{Status}
-use Rattle.feed.specs.declared.Status.TheVariants.{Opens, Refills, Stays, Closes, Unlisted}
+use Rattle.feed.specs.Messages.{Status}
+use Rattle.feed.specs.Messages.{Opens, Refills, Stays, Closes, Unlisted}
 use Rattle.promises.specs.Leaves as L
 use Rattle.promises.specs.Leaves.{wipes, clearing, writing}
 use Rattle.promises.proofs.Refused.{proper, reply_proper}

@@ -14,8 +14,8 @@ use Rattle.feed.specs.Messages.{kind, on_market, market, status_of, logon_status
 use Rattle.feed.specs.Feeds.{is, deaf, in_phase, internal_is, whole_is}
 use Rattle.feed.specs.Events.{State, Event, News, Linked, More, Heartbeat, TooLong, Message, news, time_of, on_message}
 use Rattle.feed.specs.Answers.{number, arrives, lacks_need, is_more, is_too_long, is_next, allowed, seen, line_tests, table_tests, tests, answer_to, reply}
-use Rattle.feed.specs.declared.Answer.{Answer}
-use Rattle.feed.specs.declared.Answer.TheVariants.{Keep, Lose, Spoil, Skip, Take}
+use Rattle.feed.specs.Answers.{Answer}
+use Rattle.feed.specs.Answers.{Keep, Lose, Spoil, Skip, Take}
 use Rattle.feed.specs.Steps.{on_feed, cleared, enter_live, logged_on, does, advanced, counted, taken, act, handed, outcome}
 use Rattle.feed.specs.declared.Phase.{Phase}
 use Rattle.feed.specs.declared.Phase.TheVariants.{Idle, WaitKey, WaitLogon, Refreshing, Live, Lost, Closed}
@@ -23,8 +23,8 @@ use Rattle.feed.specs.declared.Kind.{Kind}
 use Rattle.feed.specs.declared.Kind.TheVariants.{Session, Market}
 use Rattle.feed.specs.declared.Session.TheVariants.{SendKey, Logon, Logout, Refresh, Complete, Request}
 use Rattle.feed.specs.declared.Datum.{Datum}
-use Rattle.feed.specs.declared.Status.{Status}
-use Rattle.feed.specs.declared.Status.TheVariants.{Opens, Refills, Stays, Closes, Unlisted}
+use Rattle.feed.specs.Messages.{Status}
+use Rattle.feed.specs.Messages.{Opens, Refills, Stays, Closes, Unlisted}
 use Rattle.feed.specs.declared.Feed.{Feed}
 use Rattle.feed.proofs.Laws.{numbered}
 use Rattle.promises.specs.Refusals.{keeping, losing, spoiling}

@@ -19,8 +19,8 @@ use Rattle.feed.specs.Answers.{reply}
 use Rattle.feed.specs.Steps.{accepted, state_of, act, taken, handed, outcome}
 use Rattle.feed.specs.declared.Feed.{Feed}
 use Rattle.feed.specs.declared.Badge.TheVariants.{Stale}
-use Rattle.feed.specs.declared.Answer.{Answer}
-use Rattle.feed.specs.declared.Answer.TheVariants.{Keep, Lose, Spoil, Skip, Take}
+use Rattle.feed.specs.Answers.{Answer}
+use Rattle.feed.specs.Answers.{Keep, Lose, Spoil, Skip, Take}
 use Rattle.feed.specs.declared.Given.{Given}
 use Rattle.feed.specs.declared.Link.{Link}
 use Rattle.lines.specs.Looks.{look}

@@ -20,15 +20,15 @@ use Rattle.wire.specs.Codes.{security_code}
 use Rattle.feed.specs.Messages.{kind, status_of, logon_status}
 use Rattle.feed.specs.Events.{Tables, State, Event, Connect, Arrive, Cut, Overrun, News, Linked, More, Heartbeat, TooLong, Message, news, cut_from, time_of, on_message}
 use Rattle.feed.specs.Answers.{number, arrives, lacks_need, is_more, is_too_long, unsound_for, line_tests, table_tests, tests, answer_to}
-use Rattle.feed.specs.declared.Answer.TheVariants.{Take}
+use Rattle.feed.specs.Answers.{Take}
 use Rattle.feed.specs.Feeds.{badge_no, badge_of}
 use Rattle.feed.specs.Steps.{accepted, handed, outcome}
 use Rattle.feed.specs.declared.Kind.{Kind}
 use Rattle.feed.specs.declared.Kind.TheVariants.{Session, Market}
 use Rattle.feed.specs.declared.Session.TheVariants.{SendKey, Logon, Logout, Refresh, Complete, Request}
 use Rattle.feed.specs.declared.Datum.TheVariants.{Book, Strip, Other}
-use Rattle.feed.specs.declared.Status.{Status}
-use Rattle.feed.specs.declared.Status.TheVariants.{Opens, Refills, Stays, Closes, Unlisted}
+use Rattle.feed.specs.Messages.{Status}
+use Rattle.feed.specs.Messages.{Opens, Refills, Stays, Closes, Unlisted}
 use Rattle.promises.specs.Runs.{Sizes, start, after, run, trace, History, no_history, note_heard, note_over, note_status, note_taken, note_news, note, recall, history, green}
 use Rattle.promises.specs.Demands as D
 use Rattle.promises.specs.Refusals.{ending}

@@ -8,8 +8,8 @@ use Rattle.ground.specs.Choice.{first}
 use Rattle.feed.specs.Feeds.{is, deaf, listed_limit, colour, badge_no, badge}
 use Rattle.feed.specs.Events.{news, time_of, on_message}
 use Rattle.feed.specs.Answers.{number, arrives, lacks_need, is_more, is_too_long, line_tests, table_tests, tests}
-use Rattle.feed.specs.declared.Answer.{Answer}
-use Rattle.feed.specs.declared.Answer.TheVariants.{Keep}
+use Rattle.feed.specs.Answers.{Answer}
+use Rattle.feed.specs.Answers.{Keep}
 use Rattle.feed.specs.Steps.{handed, outcome}
 use Rattle.feed.specs.declared.Phase.{Phase}
 use Rattle.feed.specs.declared.Phase.TheVariants.{Idle, WaitKey, WaitLogon, Refreshing, Live, Lost, Closed}

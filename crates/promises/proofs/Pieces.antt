@@ -15,7 +15,7 @@ use Rattle.wire.specs.declared.Unit.TheVariants as unit
 use Rattle.feed.specs.Feeds.{deaf}
 use Rattle.feed.specs.Events.{State, Event, Arrive, News, news, time_of, cut_from, on_message}
 use Rattle.feed.specs.Answers.{number, arrives, lacks_need, is_more, is_too_long, line_tests, table_tests, tests, answer_to}
-use Rattle.feed.specs.declared.Answer.TheVariants.{Keep}
+use Rattle.feed.specs.Answers.{Keep}
 use Rattle.feed.specs.Steps.{accepted, handed, outcome}
 use Rattle.feed.proofs.Laws.{used_fits}
 use Rattle.promises.specs.Runs.{after}

@@ -13,8 +13,8 @@ use Rattle.feed.specs.Feeds.{deaf}
 use Rattle.feed.specs.Events.{State, Event, Connect, Arrive, Cut, Overrun, time_of, News, news, cut_from, on_message}
 use Rattle.feed.specs.Answers.{number, arrives, lacks_need, is_more, is_too_long, line_tests, table_tests, tests, answer_to, reply}
 use Rattle.feed.specs.Steps.{act, dropped_on, accepted, used_of, handed, outcome}
-use Rattle.feed.specs.declared.Answer.{Answer}
-use Rattle.feed.specs.declared.Answer.TheVariants.{Keep, Lose, Spoil, Skip, Take}
+use Rattle.feed.specs.Answers.{Answer}
+use Rattle.feed.specs.Answers.{Keep, Lose, Spoil, Skip, Take}
 use Rattle.promises.specs.Refusals.{answers_to, keeping, losing, spoiling, feed_refused, refusal}
 
 among : Event → Answer → Bool

@@ -20,8 +20,8 @@ use Rattle.feed.specs.Events.{Tables, State, Event, Connect, Arrive, Overrun, cu
 use Rattle.feed.specs.Answers.{number, arrives, lacks_need, is_too_long, is_more, line_tests, table_tests, tests}
 use Rattle.feed.specs.Steps.{accepted, Outcome, state_of, handed, outcome}
 use Rattle.feed.specs.declared.Given.{Given}
-use Rattle.feed.specs.declared.Answer.{Answer}
-use Rattle.feed.specs.declared.Answer.TheVariants.{Keep, Lose}
+use Rattle.feed.specs.Answers.{Answer}
+use Rattle.feed.specs.Answers.{Keep, Lose}
 use Rattle.feed.proofs.Following.{overrun_not, whole_answered}
 use Rattle.lines.specs.Looks.{exceeds, finished, look}
 use Rattle.lines.specs.Scraps.{Heard, Holding, Hearing, hearing, behind, laid, silent, gathered, moved_up, settled, looked, once, onward, goes_on, through, links}

@@ -26,8 +26,8 @@ use Rattle.feed.specs.Answers.{number, arrives, lacks_need, is_too_long, is_more
 use Rattle.feed.specs.Steps.{Outcome, accepted, used_of, act, dropped_on, state_of, handed, outcome}
 use Rattle.feed.specs.Frames as frame
 use Rattle.feed.specs.Frames.{Framed, framed_of, opened}
-use Rattle.feed.specs.declared.Answer.{Answer}
-use Rattle.feed.specs.declared.Answer.TheVariants.{Take}
+use Rattle.feed.specs.Answers.{Answer}
+use Rattle.feed.specs.Answers.{Take}
 use Rattle.feed.proofs.Laws.{numbered}
 use Rattle.feed.proofs.Following.{pieces, keeps, overrun_not}
 use Rattle.feed.proofs.Framing as framing

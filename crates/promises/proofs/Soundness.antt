@@ -25,8 +25,8 @@ use Rattle.feed.specs.declared.Kind.{Kind}
 use Rattle.feed.specs.declared.Kind.TheVariants.{Session, Market}
 use Rattle.feed.specs.declared.Session.TheVariants.{SendKey, Logon, Logout, Refresh, Complete, Request}
 use Rattle.feed.specs.declared.Datum.TheVariants.{Book, Strip, Other}
-use Rattle.feed.specs.declared.Status.{Status}
-use Rattle.feed.specs.declared.Status.TheVariants.{Opens, Refills, Stays, Closes, Unlisted}
+use Rattle.feed.specs.Messages.{Status}
+use Rattle.feed.specs.Messages.{Opens, Refills, Stays, Closes, Unlisted}
 use Rattle.promises.specs.Runs.{Sizes, start, run, Deed, Took, History, no_history, note_logon, note_status, note_taken, history, perform_on, replay_on}
 use Rattle.promises.specs.Demands.{hands_bytes, Bytes}
 use Rattle.promises.proofs.Steps.{OfNews, Each, Keeps, on_run}

@@ -18,8 +18,8 @@ use Rattle.feed.specs.declared.Kind.{Kind}
 use Rattle.feed.specs.declared.Kind.TheVariants.{Session, Market}
 use Rattle.feed.specs.declared.Datum.TheVariants.{Book, Strip, Other}
 use Rattle.feed.specs.declared.Link.{Link}
-use Rattle.feed.specs.declared.Answer.{Answer}
-use Rattle.feed.specs.declared.Answer.TheVariants.{Keep, Lose, Spoil, Skip, Take}
+use Rattle.feed.specs.Answers.{Answer}
+use Rattle.feed.specs.Answers.{Keep, Lose, Spoil, Skip, Take}
 use Rattle.feed.proofs.Laws.{numbered, is_take}
 use Rattle.promises.specs.Refusals.{keeping, losing, spoiling, ending}
 use Rattle.promises.specs.Runs.{after, run, trace, History, note_connect, note_heard, note_over, note_taken, note_news, note, recall}

@@ -26,14 +26,14 @@ use Rattle.feed.specs.Feeds.{new_given}
 use Rattle.feed.specs.Events.{State, Event, Connect, Arrive, Cut, Overrun, Message, news, time_of, on_message}
 use Rattle.feed.specs.Answers.{number, tests}
 use Rattle.feed.specs.Steps.{accepted, outcome}
-use Rattle.feed.specs.declared.Answer.{Answer}
+use Rattle.feed.specs.Answers.{Answer}
 use Rattle.feed.specs.declared.Kind.{Kind}
 use Rattle.feed.specs.declared.Kind.TheVariants.{Session, Market}
 use Rattle.feed.specs.declared.Session.TheVariants.{SendKey, Logon, Logout, Refresh, Complete, Request}
 use Rattle.feed.specs.declared.Datum.{Datum}
 use Rattle.feed.specs.declared.Datum.TheVariants as datum
-use Rattle.feed.specs.declared.Status.{Status}
-use Rattle.feed.specs.declared.Status.TheVariants.{Opens, Refills, Stays, Closes, Unlisted}
+use Rattle.feed.specs.Messages.{Status}
+use Rattle.feed.specs.Messages.{Opens, Refills, Stays, Closes, Unlisted}
 use Rattle.promises.specs.Refusals.{answers_to, ending, refusal}
 use Rattle.promises.specs.Runs.{Sizes, zeroed, start, after, answer_of, trace, end_of, tale, is_green, green, replay, replay_on, replay_strip}
 

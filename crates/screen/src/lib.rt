@@ -138,7 +138,7 @@ impl From<MmdhFeed> for Feed {
     #[tactic(auto, unfolding(crate::specs::Plain::yes))]
     fn from(f: MmdhFeed) -> Feed {
         Feed {
-            phase: feed::phase_of(f.phase),
+            phase: f.phase.into(),
             next: f.next,
             internal: f.internal,
             heard: f.heard,
@@ -156,7 +156,7 @@ impl From<Feed> for MmdhFeed {
     #[tactic(auto, unfolding(crate::specs::Plain::bit))]
     fn from(f: Feed) -> MmdhFeed {
         MmdhFeed {
-            phase: feed::phase_number(f.phase),
+            phase: f.phase.into(),
             next: f.next,
             internal: f.internal,
             heard: f.heard,

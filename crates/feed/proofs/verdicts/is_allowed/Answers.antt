@@ -1,8 +1,0 @@
-use Rattle.feed.proofs.Parts.{parts}
-use Rattle.feed.proofs.verdicts.is_allowed.Goals as goal
-
-pub returns-in-Session : goal.returns-in-Session
-returns-in-Session c = search parts
-
-pub returns-in-Market : goal.returns-in-Market
-returns-in-Market c = search parts
