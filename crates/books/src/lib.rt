@@ -25,7 +25,7 @@ use slots::{MOST, Slot};
 
 // A row that is read, its price signed as sent.
 #[repr(C)]
-#[derive(Clone, Copy)]
+#[derive(Clone, Copy, Default)]
 pub struct Level {
     pub price: i64,
     pub quantity: u64,

@@ -82,7 +82,7 @@ pub struct MmdhHeard {
 
 // What reading a row gives.
 #[repr(C)]
-#[derive(Clone, Copy)]
+#[derive(Clone, Copy, Default)]
 pub struct MmdhRow {
     pub answer: u64,
     pub price: i64,
@@ -92,7 +92,7 @@ pub struct MmdhRow {
 
 // What reading a side gives: the answer, how many rows, and the rows, best first.
 #[repr(C)]
-#[derive(Clone, Copy)]
+#[derive(Clone, Copy, Default)]
 pub struct MmdhSide {
     pub answer: u64,
     pub count: u64,
@@ -101,7 +101,7 @@ pub struct MmdhSide {
 
 // What reading a strip gives: the answer, the flags, and the values, prices signed as sent, 0 where none has come.
 #[repr(C)]
-#[derive(Clone, Copy)]
+#[derive(Clone, Copy, Default)]
 pub struct MmdhStrip {
     pub answer: u64,
     pub flags: u64,
@@ -367,18 +367,6 @@ pub fn mmdh_line_scrap(
         .into()
 }
 
-// A row that is not given: the answer alone.
-fn no_row(answer: u64) -> MmdhRow
-    ensures { result ≡ plain_row (row_refused answer) }
-{
-    MmdhRow {
-        answer,
-        price: 0,
-        quantity: 0,
-        orders: 0,
-    }
-}
-
 // A row by code, side and rank.
 pub fn mmdh_read_row(table: &[u64], code: u64, side: u64, rank: u64) -> MmdhRow
     ensures { RowSays table.now code side rank result }
@@ -390,23 +378,10 @@ pub fn mmdh_read_row(table: &[u64], code: u64, side: u64, rank: u64) -> MmdhRow
             quantity: level.quantity,
             orders: level.orders,
         },
-        Err(refusal) => no_row(u64::from(refusal)),
-    }
-}
-
-// A side that is not given: the answer alone.
-fn no_side(answer: u64) -> MmdhSide
-    ensures { result ≡ plain_side (side_refused answer) }
-{
-    let none = Level {
-        price: 0,
-        quantity: 0,
-        orders: 0,
-    };
-    MmdhSide {
-        answer,
-        count: 0,
-        row: [none; DEPTH],
+        Err(refusal) => MmdhRow {
+            answer: refusal.into(),
+            ..MmdhRow::default()
+        },
     }
 }
 
@@ -415,31 +390,19 @@ pub fn mmdh_read_side(table: &[u64], code: u64, side: u64) -> MmdhSide
     ensures { SideSays table.now code side result }
 {
     match books::read_side(table, code, side) {
-        Ok(read) => MmdhSide {
-            answer: 0,
-            count: read.count,
-            row: read.rows,
-        },
-        Err(refusal) => no_side(u64::from(refusal)),
-    }
-}
-
-// A strip that is not given: the answer alone.
-fn no_strip(answer: u64) -> MmdhStrip
-    ensures { result ≡ plain_strip (strip_refused answer) }
-{
-    MmdhStrip {
-        answer,
-        flags: 0,
-        nominal: 0,
-        iep: 0,
-        iev: 0,
-        reference: 0,
-        lower: 0,
-        upper: 0,
-        direction: 0,
-        imbalance: 0,
-        closing: 0,
+        Ok(side) => {
+            let row = side.rows;
+            MmdhSide {
+                answer: 0,
+                count: side.count,
+                row,
+            }
+        }
+        Err(refusal) => {
+            let mut none = MmdhSide::default();
+            none.answer = refusal.into();
+            none
+        }
     }
 }
 
@@ -461,7 +424,10 @@ pub fn mmdh_read_strip(strips: &[u64], code: u64) -> MmdhStrip
             imbalance: shown.imbalance,
             closing: shown.closing,
         },
-        Err(refusal) => no_strip(u64::from(refusal)),
+        Err(refusal) => MmdhStrip {
+            answer: refusal.into(),
+            ..MmdhStrip::default()
+        },
     }
 }
 
