@@ -13,7 +13,8 @@ use super::{Datum, Feed, Given, Kind, Phase, Turn};
 use ground::Refusal;
 use wire::{Cursor, Unit};
 
-// Every slot of both tables emptied.
+// Every slot of both tables emptied. The two slices are parameters and no struct's fields: of a field each contract would have to say besides that it is
+// the caller's slice, and as long as it was.
 fn clear(books: &mut [u64], strips: &mut [u64])
     ensures { lent books.new strips.new ≡ cleared_tables (lent books.old strips.old) }
 {
