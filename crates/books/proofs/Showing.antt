@@ -1,5 +1,5 @@
 -- What the code of reading a row comes to, return by return (specs/Reading). Assumes nothing.
-use Prim.Native.Nat.{ℕ, ◌+◌, ◌-◌, ◌*◌, ◌≤◌, ◌<◌}
+use Prim.Native.Nat.{ℕ, zero, suc, ◌+◌, ◌-◌, ◌*◌, ◌≤◌, ◌<◌}
 use native.Mathlib.Omega.{arith}
 use mathlib.Core.Path.{◌≡◌, refl, sym, ap, ◌∙◌, subst}
 use mathlib.Core.Bool.{Bool, true, false, cond, ◌&&◌}
@@ -9,30 +9,36 @@ use Rattle.ground.proofs.Bools.{both}
 use types.Run
 use denote.Enum.Declared
 use lib.Dec.{leb, ltb, eqb}
-use lib.IntN.{ℤ, sub_ℕ}
 use lib.ListN.{length, take, drop, get_or}
 use lib.Seq.{length-take-le, get_or-take}
-use borrow.Author.Tests.{lt-leb, le-leb, lt-ltb, le-ltb, eq-eqb, ne_eqb, leb-true}
+use borrow.Author.Tests.{lt-ltb, le-ltb, leb-true}
 use Rattle.ground.specs.Choice.{first}
-use Rattle.wire.specs.Number.{bias, word32}
+use Rattle.wire.specs.Number.{word32}
 use Rattle.slots.specs.Layout as table
-use Rattle.slots.specs.Layout.{count_in}
 use Rattle.slots.specs.declared.Slot.{Slot}
 use Rattle.slots.specs.declared.Slot.TheVariants.{Held, Free, Full}
 use Rattle.slots.specs.contracts.Slot as slot'
-use Rattle.slots.proofs.Turning.{part_is}
 use Rattle.wire.specs.Codes.{listed_code}
 use Rattle.ladder.specs.Message.{depth, listed_side, listed_rank}
 use Rattle.ladder.specs.Sides.{no_row}
-use Rattle.ladder.specs.Words.{book_width, bid_count, offer_count, bids_at, offers_at, row_width, row_of, rows_from, sound}
+use Rattle.ladder.specs.Words.{bid_count, offer_count, bids_at, offers_at, row_width, row_of, rows_from, sound}
 use Rattle.ladder.specs.declared.Row.{Row}
 use Rattle.ladder.proofs.Walks.{side_known, side_unknown}
 use Rattle.ladder.proofs.Loads.{rows_ten, row_is}
 use Rattle.ladder.proofs.Tells.{few_bids, few_offers, bid_bounds, offer_bounds}
-use Rattle.books.specs.Table.{books, place_in, block}
+use Rattle.books.specs.Table.{place_in, block}
 use Rattle.books.specs.Reading.{no_book, read_answer, row_refused, row_shown, read_row}
-use Rattle.books.specs.Code.Rows.{row_of_side, row_of_book}
-use Rattle.books.specs.declared.RowRead.{RowRead}
+use Rattle.books.specs.Code.Rows.{side_no, row_read, row_of_side, row_of_book}
+use Rattle.books.specs.Reading.{RowRead, level_of}
+use Rattle.books.specs.declared.Level.{Level}
+use Rattle.std.specs.Prelude.{Result, Ok, Err, MatchResult}
+use Rattle.ground.specs.Refusals.{refusal_no}
+use Rattle.ground.specs.declared.Refusal.{Refusal}
+use Rattle.ground.specs.declared.Refusal.TheVariants.{Unlisted}
+use Rattle.ladder.specs.Code.Arrays.{way_of}
+use Rattle.ladder.specs.Code.Loading.{count_at, rows_at, count_in}
+use Rattle.ladder.specs.declared.Way.{Way}
+use Rattle.ladder.specs.declared.Way.TheVariants.{Bid, Offer}
 use Rattle.books.proofs.Turning.{turning}
 
 -- code and side, and rank
@@ -42,59 +48,60 @@ side_asked c side = listed_code c && listed_side side
 abbrev pub asked : ℕ → ℕ → ℕ → Bool
 asked c side rank = listed_code c && listed_side side && listed_rank rank
 
-pub side_no_code : (c side : ℕ) (a : Bool) → a ≡ listed_code c → a ≡ false → false ≡ side_asked c side
-side_no_code c side a e n = rw (sym e ∙ n)
+-- a side's number is that of its way
+way_side : (side : ℕ) → side ≤ 1 → side ≡ side_no (way_of side)
+way_side zero h = refl
+way_side (suc zero) h = refl
+way_side (suc (suc side)) h = absurd (omega arith)
 
-pub side_other : (c side : ℕ) (a : Bool) → a ≡ listed_code c → a ≡ true → 1 < side → false ≡ side_asked c side
-side_other c side a e y h = rw (sym e ∙ y, side_unknown side h)
+-- what is asked for is listed, or not
+abbrev pub Asked : ℕ → ℕ → Result Way Refusal → Type 0
+Asked c side r = MatchResult r (λ way. (side_asked c side ≡ true) × (side ≡ side_no way)) (λ e. (side_asked c side ≡ false) × (e ≡ Unlisted))
 
-pub side_either : (c side : ℕ) (a : Bool) → a ≡ listed_code c → a ≡ true → side ≤ 1 → true ≡ side_asked c side
-side_either c side a e y h = rw (sym e ∙ y, side_known side h)
+pub no_code_asked : (c side : ℕ) (a : Bool) → a ≡ listed_code c → a ≡ false → (side_asked c side ≡ false) × (Unlisted ≡ Unlisted)
+no_code_asked c side a e n = (rw (sym e ∙ n), refl)
 
-pub asked_side : (c side rank : ℕ) (a : Bool) → a ≡ side_asked c side → a ≡ false → false ≡ asked c side rank
-asked_side c side rank a e n = rw (sym e ∙ n)
-
-pub asked_zero : (c side rank : ℕ) (a : Bool) → a ≡ side_asked c side → a ≡ true → rank < 1 → false ≡ asked c side rank
-unfolding listed_rank
-asked_zero c side rank a e y l = rw (sym e ∙ y, lt-leb 1 rank l)
-
-pub asked_rank : (c side rank : ℕ) (a : Bool) → a ≡ side_asked c side → a ≡ true → 1 ≤ rank → leb rank depth ≡ asked c side rank
-unfolding listed_rank
-asked_rank c side rank a e y l = rw (sym e ∙ y, le-leb 1 rank l)
+pub code_asked : (c side : ℕ) (a : Bool) (r : Result Way Refusal) → a ≡ listed_code c → a ≡ true
+    → MatchResult r (λ way. (side ≤ 1) × (way ≡ way_of side)) (λ e. (1 < side) × (e ≡ Unlisted)) → Asked c side r
+code_asked c side a (Ok way) e y h = (rw (sym e ∙ y, side_known side h.0), rw h.1 (way_side side h.0))
+code_asked c side a (Err x) e y h = (rw (sym e ∙ y, side_unknown side h.0), h.1)
 
 -- a row of a side
-pub no_such : (base n rank : ℕ) (w : List ℕ) (x : RowRead) → x ≡ row_refused 4 → n < rank → x ≡ row_of_side base n rank w
+pub no_such : (way : Way) (at rank : ℕ) (w : List ℕ) → at ≡ count_at way → get_or w at 0 < rank → row_refused 4 ≡ row_of_side (rows_at way) (count_in way w) rank w
 unfolding row_of_side
-no_such base n rank w x e h = e ∙ rw (lt-ltb n rank h)
+no_such way at rank w e h =
+    let n : count_in way w < rank = subst (λ (k : ℕ). get_or w k 0 < rank) e h in
+    rw (lt-ltb (count_in way w) rank n)
 
-pub row_bound : (base n rank : ℕ) (w : List ℕ) (r : Row) → (rank ≤ n → (row_of (drop (base + row_width * (rank - 1)) w)).price < word32) → rank ≤ n → r ≡ row_of (drop (base + row_width * (rank - 1)) w)
-    → r.price < word32
-row_bound base n rank w r b h e = rw e (b h)
+-- a row of a side of a book that is sound
+way_price : (way : Way) (w : List ℕ) (rank : ℕ) → sound w ≡ true → 1 ≤ rank → rank ≤ depth → rank ≤ count_in way w → (row_of (drop (rows_at way + row_width * (rank - 1)) w)).price < word32
+way_price Bid w rank y low high h = subst (λ (r : Row). r.price < word32) (row_is bids_at w (rank - 1) (omega arith)) (bid_bounds w y (rank - 1) (omega arith)).0
+way_price Offer w rank y low high h = subst (λ (r : Row). r.price < word32) (row_is offers_at w (rank - 1) (omega arith)) (offer_bounds w y (rank - 1) (omega arith)).0
 
-pub row_shown_lem : (base n rank : ℕ) (w : List ℕ) (r : Row) (p : ℤ) → rank ≤ n → r ≡ row_of (drop (base + row_width * (rank - 1)) w) → p ≡ sub_ℕ r.price bias
-    → ◌≡◌ {A = RowRead} (record { answer = 0; price = p; quantity = r.quantity; orders = r.orders }) (row_of_side base n rank w)
-unfolding row_of_side
-row_shown_lem base n rank w r p h e q = rw (q, e, le-ltb n rank h)
+module _ (way : Way) (w : List ℕ) (rank at base : ℕ) (r : Row) (ask : (sound w ≡ true) × (1 ≤ rank) × (rank ≤ depth)) (ea : at ≡ count_at way) (h : rank ≤ get_or w at 0)
+    (eb : base ≡ rows_at way) (e : r ≡ row_of (drop (base + row_width * (rank - 1)) w)) where
+  rank_in : rank ≤ count_in way w
+  rank_in = subst (λ (k : ℕ). rank ≤ get_or w k 0) ea h
 
--- a row of a book that is sound
-module _ (t : Bool) (w : List ℕ) (e : t ≡ sound w) (y : t ≡ true) (rank : ℕ) (low : 1 ≤ rank) (high : rank ≤ depth) where
-  pub bid_price : rank ≤ bid_count w → (row_of (drop (bids_at + row_width * (rank - 1)) w)).price < word32
-  bid_price h = subst (λ (r : Row). r.price < word32) (row_is bids_at w (rank - 1) (omega arith)) (bid_bounds w (sym e ∙ y) (rank - 1) (omega arith)).0
+  row_in : r ≡ row_of (drop (rows_at way + row_width * (rank - 1)) w)
+  row_in = e ∙ ap (λ (b : ℕ). row_of (drop (b + row_width * (rank - 1)) w)) eb
 
-  pub offer_price : rank ≤ offer_count w → (row_of (drop (offers_at + row_width * (rank - 1)) w)).price < word32
-  offer_price h = subst (λ (r : Row). r.price < word32) (row_is offers_at w (rank - 1) (omega arith)) (offer_bounds w (sym e ∙ y) (rank - 1) (omega arith)).0
+  pub row_bound : r.price < word32
+  row_bound = subst (λ (x : Row). x.price < word32) (sym row_in) (way_price way w rank ask.0 ask.1 ask.2 rank_in)
 
-pub book_bid : (t : Bool) (w : List ℕ) (side rank : ℕ) (x : RowRead) → t ≡ sound w → t ≡ true → side ≡ 0 → x ≡ row_of_side bids_at (bid_count w) rank w → x ≡ row_of_book side rank w
+  pub row_shown_lem : (l : Level) → l ≡ level_of (row_shown r) → row_read (Ok l) ≡ row_of_side (rows_at way) (count_in way w) rank w
+  unfolding row_of_side
+  row_shown_lem l q = rw (q, row_in, le-ltb (count_in way w) rank rank_in)
+
+-- a row of a book
+pub book_row : (way : Way) (t : Bool) (w : List ℕ) (rank : ℕ) (x : RowRead) → t ≡ sound w → t ≡ true → x ≡ row_of_side (rows_at way) (count_in way w) rank w → x ≡ row_of_book (side_no way) rank w
 unfolding row_of_book
-book_bid t w side rank x e y d h = h ∙ rw (sym e ∙ y, eq-eqb side 0 d)
+book_row Bid t w rank x e y h = h ∙ rw (sym e ∙ y)
+book_row Offer t w rank x e y h = h ∙ rw (sym e ∙ y)
 
-pub book_offer : (t : Bool) (w : List ℕ) (side rank : ℕ) (x : RowRead) → t ≡ sound w → t ≡ true → (side ≡ 0 → ⊥) → x ≡ row_of_side offers_at (offer_count w) rank w → x ≡ row_of_book side rank w
+pub book_unsound : (t : Bool) (w : List ℕ) (side rank : ℕ) → t ≡ sound w → t ≡ false → row_refused 18 ≡ row_of_book side rank w
 unfolding row_of_book
-book_offer t w side rank x e y d h = h ∙ rw (sym e ∙ y, ne_eqb side 0 d)
-
-pub book_unsound : (t : Bool) (w : List ℕ) (side rank : ℕ) (x : RowRead) → t ≡ sound w → t ≡ false → x ≡ row_refused 18 → x ≡ row_of_book side rank w
-unfolding row_of_book
-book_unsound t w side rank x e n h = h ∙ rw (sym e ∙ n)
+book_unsound t w side rank e n = rw (sym e ∙ n)
 
 -- a row of the table
 pub read_unasked : (c side rank : ℕ) (t : List ℕ) (a : Bool) (x : RowRead) → a ≡ asked c side rank → a ≡ false → x ≡ row_refused 15 → x ≡ read_row c side rank t
@@ -105,12 +112,20 @@ pub no_book_read : (c side rank : ℕ) (t : List ℕ) → asked c side rank ≡ 
 unfolding read_row read_answer first
 no_book_read c side rank t a p e n = rw (a, e, n)
 
-pub read_none : (c side rank : ℕ) (t : List ℕ) (a : Bool) (f : Slot) (x : RowRead) → a ≡ asked c side rank → a ≡ true → f ≡ place_in c t
-    → Run.OneOf (1 ∷ 2 ∷ []) (Declared.tag_of slot'.the_type f) → x ≡ row_refused 4 → x ≡ read_row c side rank t
+-- of a code, a side or a rank that is not listed
+pub unlisted_side : (c side rank : ℕ) (t : List ℕ) (e : Refusal) → (side_asked c side ≡ false) × (e ≡ Unlisted) → row_refused (refusal_no e) ≡ read_row c side rank t
+unlisted_side c side rank t e h = rw h.1 (read_unasked c side rank t (asked c side rank) (row_refused 15) refl (rw h.0) refl)
+
+pub unlisted_rank : (c side rank : ℕ) (t : List ℕ) (b : Bool) → side_asked c side ≡ true → b ≡ listed_rank rank → b ≡ false → row_refused 15 ≡ read_row c side rank t
+unlisted_rank c side rank t b a e n = read_unasked c side rank t (asked c side rank) (row_refused 15) refl (rw (a, sym e ∙ n)) refl
+
+-- of a code that has no book
+pub read_none : (c side rank : ℕ) (t : List ℕ) (b : Bool) (f : Slot) → side_asked c side ≡ true → b ≡ listed_rank rank → b ≡ true → f ≡ place_in c t
+    → Run.OneOf (1 ∷ 2 ∷ []) (Declared.tag_of slot'.the_type f) → row_refused 4 ≡ read_row c side rank t
 unfolding no_book
-read_none c side rank t a (Held k) x ea y ef o h = absurd (Run.miss (1 ∷ 2 ∷ []) 0 tt o)
-read_none c side rank t a (Free k) x ea y ef o h = h ∙ no_book_read c side rank t (sym ea ∙ y) (Free k) (sym ef) refl
-read_none c side rank t a Full x ea y ef o h = h ∙ no_book_read c side rank t (sym ea ∙ y) Full (sym ef) refl
+read_none c side rank t b (Held k) a e y ef o = absurd (Run.miss (1 ∷ 2 ∷ []) 0 tt o)
+read_none c side rank t b (Free k) a e y ef o = no_book_read c side rank t (rw (a, sym e ∙ y)) (Free k) (sym ef) refl
+read_none c side rank t b Full a e y ef o = no_book_read c side rank t (rw (a, sym e ∙ y)) Full (sym ef) refl
 
 -- the row by the side's own rows is the row by its words
 side_read : (base n rank : ℕ) (w : List ℕ) → n ≤ depth → 1 ≤ rank → rank ≤ depth
@@ -135,48 +150,34 @@ held_row c side rank k t a low high e false ey b eb = rw (a, e, ey)
 held_row c side rank k t a low high e true ey true eb = rw (a, e, ey, eb) (side_read bids_at (bid_count (block k t)) rank (block k t) (few_bids (block k t) ey) low high)
 held_row c side rank k t a low high e true ey false eb = rw (a, e, ey, eb) (side_read offers_at (offer_count (block k t)) rank (block k t) (few_offers (block k t) ey) low high)
 
-rank_listed : (c side rank : ℕ) → asked c side rank ≡ true → (1 ≤ rank) × (rank ≤ depth)
+rank_is : (rank : ℕ) → listed_rank rank ≡ true → (1 ≤ rank) × (rank ≤ depth)
 unfolding listed_rank
-rank_listed c side rank e =
-    let q = both (leb 1 rank) (leb rank depth) (both (listed_code c && listed_side side) (leb 1 rank && leb rank depth) e).1 in
+rank_is rank e =
+    let q = both (leb 1 rank) (leb rank depth) e in
     (leb-true 1 rank q.0, leb-true rank depth q.1)
 
-pub rank_low : (c side rank : ℕ) (a : Bool) → a ≡ asked c side rank → a ≡ true → 1 ≤ rank
-rank_low c side rank a e y = (rank_listed c side rank (sym e ∙ y)).0
+pub rank_within : (rank : ℕ) (b : Bool) → b ≡ listed_rank rank → b ≡ true → (1 ≤ rank) × (rank ≤ depth)
+rank_within rank b e y = rank_is rank (sym e ∙ y)
 
-pub rank_high : (c side rank : ℕ) (a : Bool) → a ≡ asked c side rank → a ≡ true → rank ≤ depth
-rank_high c side rank a e y = (rank_listed c side rank (sym e ∙ y)).1
-
-pub read_slot : (side rank k : ℕ) (t : List ℕ) (x : RowRead) → k < count_in books (length t)
-    → x ≡ row_of_book side rank (take (book_width * k + book_width - book_width * k) (drop (book_width * k) t)) → x ≡ row_of_book side rank (block k t)
-read_slot side rank k t x h q = q ∙ ap (row_of_book side rank) (part_is books k t h)
-
-pub read_held : (c side rank k : ℕ) (t : List ℕ) (a : Bool) (f : Slot) (x : RowRead) → a ≡ asked c side rank → a ≡ true → f ≡ place_in c t → f ≡ Held k
-    → x ≡ row_of_book side rank (block k t) → x ≡ read_row c side rank t
-read_held c side rank k t a f x ea y ef h q =
-    let r = rank_listed c side rank (sym ea ∙ y) in
-    q ∙ sym (held_row c side rank k t (sym ea ∙ y) r.0 r.1 (sym ef ∙ h) (sound (block k t)) refl (eqb side 0) refl)
+pub read_held : (c side rank k : ℕ) (t w : List ℕ) (b : Bool) (f : Slot) (way : Way) (x : RowRead) → (side_asked c side ≡ true) × (side ≡ side_no way) → b ≡ listed_rank rank → b ≡ true
+    → f ≡ place_in c t → f ≡ Held k → w ≡ block k t → x ≡ row_of_book (side_no way) rank w → x ≡ read_row c side rank t
+read_held c side rank k t w b f way x a e y ef h ew q =
+    let r = rank_is rank (sym e ∙ y) in
+    q ∙ ap (row_of_book (side_no way) rank) ew ∙ ap (λ (n : ℕ). row_of_book n rank (block k t)) (sym a.1)
+    ∙ sym (held_row c side rank k t (rw (a.0, sym e ∙ y)) r.0 r.1 (sym ef ∙ h) (sound (block k t)) refl (eqb side 0) refl)
 
 pub ruleset showing = (
   turning,
-  side_no_code,
-  side_other,
-  side_either,
-  asked_side,
-  asked_zero,
-  asked_rank,
+  no_code_asked,
+  code_asked,
   no_such,
   row_bound,
   row_shown_lem,
-  bid_price,
-  offer_price,
-  book_bid,
-  book_offer,
+  book_row,
   book_unsound,
-  read_unasked,
+  unlisted_side,
+  unlisted_rank,
   read_none,
-  rank_low,
-  rank_high,
-  read_slot,
+  rank_within,
   read_held,
 )

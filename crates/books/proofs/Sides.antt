@@ -1,5 +1,5 @@
 -- What the code of reading a side at once comes to, return by return (specs/Reading): what single reads give, rank by rank. Assumes nothing.
-use Prim.Native.Nat.{ℕ, zero, suc, ◌+◌, ◌-◌, ◌*◌, ◌≤◌, ◌<◌}
+use Prim.Native.Nat.{ℕ, zero, suc, ◌+◌, ◌-◌, ◌≤◌, ◌<◌}
 use native.Mathlib.Omega.{arith}
 use native.Mathlib.Nat.{le_of_suc-le-suc, not-suc-le-zero}
 use native.Mathlib.Decide.{dec_lt}
@@ -9,27 +9,31 @@ use mathlib.Core.List.{List, [], ◌∷◌, map}
 use types.Run
 use denote.Enum.Declared
 use lib.Dec.{eqb}
-use lib.ListN.{length, take, drop, get_or, set, length-map, get_or-map}
-use borrow.Author.Tests.{le-leb, lt-ltb, le-ltb, eq-eqb, ne_eqb}
+use lib.ListN.{length, get_or, length-map, get_or-map}
+use borrow.Author.Tests.{le-leb, lt-ltb, le-ltb}
 use Rattle.ground.specs.Choice.{first}
-use Rattle.wire.specs.Number.{word32}
 use Rattle.slots.specs.Layout as table
-use Rattle.slots.specs.Layout.{count_in}
 use Rattle.slots.specs.declared.Slot.{Slot}
 use Rattle.slots.specs.declared.Slot.TheVariants.{Held, Free, Full}
 use Rattle.slots.specs.contracts.Slot as slot'
-use Rattle.slots.proofs.Turning.{part_is}
 use Rattle.ladder.specs.Message.{depth, listed_rank}
-use Rattle.ladder.specs.Words.{book_width, side_width, bid_count, offer_count, bids_at, offers_at, row_width, row_of, sound}
-use Rattle.ladder.proofs.Fills.{Filled, fill_none, fill_one, fill_all}
+use Rattle.ladder.specs.Words.{bid_count, offer_count, bids_at, offers_at, sound}
 use Rattle.ladder.proofs.Tells.{few_bids, few_offers}
 use Rattle.books.specs.Table.{books, place_in, block}
 use Rattle.books.specs.Reading.{no_book, row_refused, read_row, side_answer, reads_from, row_count, level_of, side_by, read_side}
-use Rattle.books.specs.Code.Rows.{row_of_side, row_of_book, Priced, side_refused, reads_of_side, side_of_words, side_of_book}
+use Rattle.std.specs.Prelude.{Result, Ok, Err}
+use Rattle.std.specs.Result.{result_unwrap_or}
+use Rattle.ground.specs.Refusals.{refusal_no}
+use Rattle.ground.specs.declared.Refusal.{Refusal}
+use Rattle.ground.specs.declared.Refusal.TheVariants.{Unlisted}
+use Rattle.ladder.specs.Code.Loading.{count_at, rows_at, count_in}
+use Rattle.ladder.specs.declared.Way.{Way}
+use Rattle.ladder.specs.declared.Way.TheVariants.{Bid, Offer}
+use Rattle.books.specs.Code.Rows.{side_no, row_read, side_read, row_of_side, row_of_book, side_refused, reads_of_side, side_of_words, side_of_book}
 use Rattle.books.specs.declared.Level.{Level}
-use Rattle.books.specs.declared.RowRead.{RowRead}
-use Rattle.books.specs.declared.SideRead.{SideRead}
-use Rattle.books.proofs.Showing.{showing, side_asked, asked, bid_price, offer_price, read_unasked, no_book_read, held_row}
+use Rattle.books.specs.Reading.{RowRead}
+use Rattle.books.specs.Reading.{SideRead}
+use Rattle.books.proofs.Showing.{showing, side_asked, asked, read_unasked, no_book_read, held_row}
 
 -- reads at ranks: how many, which, and that equal reads at each rank are equal reads
 pub reads_long : (f : ℕ → RowRead) (n rank : ℕ) → length (reads_from f n rank) ≡ n
@@ -70,81 +74,40 @@ module _ (base n : ℕ) (w : List ℕ) where
 abbrev pub levels_of_side : ℕ → ℕ → List ℕ → List Level
 levels_of_side base n w = map level_of (reads_of_side base n w)
 
-pub record Copied (base n : ℕ) (w : List ℕ) (rows : List Level) (k : ℕ) : Type 0 where
-  pub room : base + side_width ≤ length w
-  pub few : n ≤ depth
-  pub priced : Priced base n w
-  pub filled : Filled (levels_of_side base n w) rows k
-
-levels_ten : (base n : ℕ) (w : List ℕ) → length (levels_of_side base n w) ≡ depth
+pub levels_ten : (base n : ℕ) (w : List ℕ) → length (levels_of_side base n w) ≡ depth
 levels_ten base n w = length-map (reads_of_side base n w) level_of ∙ reads_long (λ r. row_of_side base n r w) depth 1
 
-level_at_lem : (base n : ℕ) (w : List ℕ) (k : ℕ) → k < depth → get_or (levels_of_side base n w) k (level_of (row_refused 0)) ≡ level_of (row_of_side base n (k + 1) w)
+pub level_at_lem : (base n : ℕ) (w : List ℕ) (k : ℕ) → k < depth → get_or (levels_of_side base n w) k (level_of (row_refused 0)) ≡ level_of (row_of_side base n (k + 1) w)
 level_at_lem base n w k h =
     get_or-map level_of (reads_of_side base n w) k (row_refused 0)
     ∙ ap level_of (reads_at (λ r. row_of_side base n r w) depth 1 k (row_refused 0) h ∙ ap (λ (r : ℕ). row_of_side base n r w) (omega arith))
 
-pub copy_starts : (base n : ℕ) (w : List ℕ) (l : Level) → base + side_width ≤ length w → n ≤ depth → Priced base n w
-    → Copied base n w (l ∷ l ∷ l ∷ l ∷ l ∷ l ∷ l ∷ l ∷ l ∷ l ∷ []) 0
-copy_starts base n w l h f p = record {
-  room = h;
-  few = f;
-  priced = p;
-  filled = fill_none (levels_of_side base n w) (l ∷ l ∷ l ∷ l ∷ l ∷ l ∷ l ∷ l ∷ l ∷ l ∷ []) (levels_ten base n w) refl;
-}
+-- a row that is not there is shown as zeros
+level_or : (r : Result Level Refusal) → result_unwrap_or r (level_of (row_refused 0)) ≡ level_of (row_read r)
+level_or (Ok l) = refl
+level_or (Err e) = refl
 
-pub copy_price : (base n : ℕ) (w : List ℕ) (rows : List Level) (k : ℕ) → Copied base n w rows k
-    → k + 1 ≤ n → (row_of (drop (base + row_width * (k + 1 - 1)) w)).price < word32
-copy_price base n w rows k c h = c.priced.below (k + 1) (omega arith) h
+pub level_shown : (r : Result Level Refusal) (x : RowRead) (l : Level) → row_read r ≡ x → l ≡ result_unwrap_or r (level_of (row_refused 0)) → l ≡ level_of x
+level_shown r x l e h = h ∙ level_or r ∙ ap level_of e
 
-pub copy_goes : (base n : ℕ) (w : List ℕ) (rows : List Level) (k : ℕ) (x : RowRead) (l : Level) → Copied base n w rows k → k < depth
-    → x ≡ row_of_side base n (k + 1) w → l ≡ level_of x → Copied base n w (set rows k l) (k + 1)
-copy_goes base n w rows k x l c h e g = record {
-  room = c.room;
-  few = c.few;
-  priced = c.priced;
-  filled = fill_one (level_of (row_refused 0)) (levels_of_side base n w) rows k l c.filled h (g ∙ ap level_of e ∙ sym (level_at_lem base n w k h));
-}
+way_few : (way : Way) (w : List ℕ) → sound w ≡ true → count_in way w ≤ depth
+way_few Bid w y = few_bids w y
+way_few Offer w y = few_offers w y
 
-pub copy_ends : (base n : ℕ) (w : List ℕ) (rows : List Level) (k : ℕ) → Copied base n w rows k → depth ≤ k
-    → ◌≡◌ {A = SideRead} (record { answer = 0; count = n; rows = rows }) (side_of_words base n w)
+pub side_whole : (way : Way) (w : List ℕ) (at : ℕ) (rows : List Level) → sound w ≡ true → at ≡ count_at way → rows ≡ levels_of_side (rows_at way) (count_in way w) w
+    → side_read (Ok (record { count = get_or w at 0; rows = rows })) ≡ side_of_words (rows_at way) (count_in way w) w
 unfolding side_of_words side_by
-copy_ends base n w rows k c h = rw (count_is base n w c.few, fill_all (levels_of_side base n w) rows k c.filled h)
+side_whole way w at rows y e h = rw (e, h, count_is (rows_at way) (count_in way w) w (way_few way w y))
 
--- no rows
-pub none_ten : (a : ℕ) (x : RowRead) (l : Level) → x ≡ row_refused a → l ≡ level_of x
-    → ◌≡◌ {A = SideRead} (record { answer = a; count = 0; rows = l ∷ l ∷ l ∷ l ∷ l ∷ l ∷ l ∷ l ∷ l ∷ l ∷ [] }) (side_refused a)
-none_ten a x l e g = rw (g, e)
-
--- a side of a book that is sound
-module _ (t : Bool) (w : List ℕ) (e : t ≡ sound w) (y : t ≡ true) where
-  pub bids_few : bid_count w ≤ depth
-  bids_few = few_bids w (sym e ∙ y)
-
-  pub offers_few : offer_count w ≤ depth
-  offers_few = few_offers w (sym e ∙ y)
-
-  pub bids_priced : Priced bids_at (bid_count w) w
-  bids_priced = record { below = λ rank low h. bid_price t w e y rank low (omega (arith, bids_few)) h }
-
-  pub offers_priced : Priced offers_at (offer_count w) w
-  offers_priced = record { below = λ rank low h. offer_price t w e y rank low (omega (arith, offers_few)) h }
-
-pub side_bids : (t : Bool) (w : List ℕ) (side : ℕ) (x : SideRead) → t ≡ sound w → t ≡ true → side ≡ 0 → x ≡ side_of_words bids_at (bid_count w) w → x ≡ side_of_book side w
+-- a side of a book
+pub book_side : (way : Way) (t : Bool) (w : List ℕ) (x : SideRead) → t ≡ sound w → t ≡ true → x ≡ side_of_words (rows_at way) (count_in way w) w → x ≡ side_of_book (side_no way) w
 unfolding side_of_book
-side_bids t w side x e y d h = h ∙ rw (sym e ∙ y, eq-eqb side 0 d)
+book_side Bid t w x e y h = h ∙ rw (sym e ∙ y)
+book_side Offer t w x e y h = h ∙ rw (sym e ∙ y)
 
-pub side_offers : (t : Bool) (w : List ℕ) (side : ℕ) (x : SideRead) → t ≡ sound w → t ≡ true → (side ≡ 0 → ⊥) → x ≡ side_of_words offers_at (offer_count w) w → x ≡ side_of_book side w
+pub side_unsound : (t : Bool) (w : List ℕ) (side : ℕ) → t ≡ sound w → t ≡ false → side_refused 18 ≡ side_of_book side w
 unfolding side_of_book
-side_offers t w side x e y d h = h ∙ rw (sym e ∙ y, ne_eqb side 0 d)
-
-pub side_unsound : (t : Bool) (w : List ℕ) (side : ℕ) (x : SideRead) → t ≡ sound w → t ≡ false → x ≡ side_refused 18 → x ≡ side_of_book side w
-unfolding side_of_book
-side_unsound t w side x e n h = h ∙ rw (sym e ∙ n)
-
-pub side_slot : (side k : ℕ) (t : List ℕ) (x : SideRead) → k < count_in books (length t)
-    → x ≡ side_of_book side (take (book_width * k + book_width - book_width * k) (drop (book_width * k) t)) → x ≡ side_of_book side (block k t)
-side_slot side k t x h q = q ∙ ap (side_of_book side) (part_is books k t h)
+side_unsound t w side e n = rw (sym e ∙ n)
 
 -- a side of the table: refused where every single read is
 ten_refused : (a : ℕ) → eqb a 0 ≡ false → side_refused a ≡ side_by a (reads_from (λ r. row_refused a) depth 1)
@@ -158,10 +121,10 @@ all_refused c side a t z e h =
     let same = reads_same (λ r. read_row c side r t) (λ r. row_refused a) depth 1 (λ rank l m. h rank l (omega arith)) in
     rw (e, same) (ten_refused a z)
 
-pub side_unasked : (c side : ℕ) (t : List ℕ) (a : Bool) (x : SideRead) → a ≡ side_asked c side → a ≡ false → x ≡ side_refused 15 → x ≡ read_side c side t
+pub side_unasked : (c side : ℕ) (t : List ℕ) (e : Refusal) → (side_asked c side ≡ false) × (e ≡ Unlisted) → side_refused (refusal_no e) ≡ read_side c side t
 unfolding side_answer first
-side_unasked c side t a x e n h =
-    h ∙ all_refused c side 15 t refl (rw (sym e ∙ n)) (λ rank l m. sym (read_unasked c side rank t (asked c side rank) (row_refused 15) refl (rw (sym e ∙ n)) refl))
+side_unasked c side t e h =
+    rw h.1 (all_refused c side 15 t refl (rw h.0) (λ rank l m. sym (read_unasked c side rank t (asked c side rank) (row_refused 15) refl (rw h.0) refl)))
 
 asked_in : (c side rank : ℕ) → side_asked c side ≡ true → 1 ≤ rank → rank ≤ depth → asked c side rank ≡ true
 unfolding listed_rank
@@ -171,12 +134,12 @@ no_book_side : (c side : ℕ) (t : List ℕ) → side_asked c side ≡ true → 
 unfolding side_answer first
 no_book_side c side t a p e n = all_refused c side 4 t refl (rw (a, e, n)) (λ rank l m. sym (no_book_read c side rank t (asked_in c side rank a l m) p e n))
 
-pub side_none : (c side : ℕ) (t : List ℕ) (a : Bool) (f : Slot) (x : SideRead) → a ≡ side_asked c side → a ≡ true → f ≡ place_in c t
-    → Run.OneOf (1 ∷ 2 ∷ []) (Declared.tag_of slot'.the_type f) → x ≡ side_refused 4 → x ≡ read_side c side t
+pub side_none : (c side : ℕ) (t : List ℕ) (f : Slot) → side_asked c side ≡ true → f ≡ place_in c t
+    → Run.OneOf (1 ∷ 2 ∷ []) (Declared.tag_of slot'.the_type f) → side_refused 4 ≡ read_side c side t
 unfolding no_book
-side_none c side t a (Held k) x ea y ef o h = absurd (Run.miss (1 ∷ 2 ∷ []) 0 tt o)
-side_none c side t a (Free k) x ea y ef o h = h ∙ no_book_side c side t (sym ea ∙ y) (Free k) (sym ef) refl
-side_none c side t a Full x ea y ef o h = h ∙ no_book_side c side t (sym ea ∙ y) Full (sym ef) refl
+side_none c side t (Held k) a ef o = absurd (Run.miss (1 ∷ 2 ∷ []) 0 tt o)
+side_none c side t (Free k) a ef o = no_book_side c side t a (Free k) (sym ef) refl
+side_none c side t Full a ef o = no_book_side c side t a Full (sym ef) refl
 
 -- the code's book: every single read is one out of its words
 module _ (c side k : ℕ) (t : List ℕ) (a : side_asked c side ≡ true) (e : place_in c t ≡ Held k) where
@@ -195,14 +158,16 @@ module _ (c side k : ℕ) (t : List ℕ) (a : side_asked c side ≡ true) (e : p
   held_side : (y : Bool) → sound (block k t) ≡ y → read_side c side t ≡ side_of_book side (block k t)
   unfolding read_side side_answer no_book table.unsound_at first
   held_side false ey =
-      sym (all_refused c side 18 t refl (rw (a, e, ey)) (λ rank l h. single rank l h ∙ unsound_row ey rank)) ∙ side_unsound false (block k t) side (side_refused 18) (sym ey) refl refl
+      sym (all_refused c side 18 t refl (rw (a, e, ey)) (λ rank l h. single rank l h ∙ unsound_row ey rank)) ∙ side_unsound false (block k t) side (sym ey) refl
   held_side true ey =
       let same = reads_same (λ r. read_row c side r t) (λ r. row_of_book side r (block k t)) depth 1 (λ rank l h. single rank l (omega arith)) in
       rw (a, e, ey, same) (sound_side_lem ey (eqb side 0) refl)
 
-pub side_held : (c side k : ℕ) (t : List ℕ) (a : Bool) (f : Slot) (x : SideRead) → a ≡ side_asked c side → a ≡ true → f ≡ place_in c t → f ≡ Held k
-    → x ≡ side_of_book side (block k t) → x ≡ read_side c side t
-side_held c side k t a f x ea y ef h q = q ∙ sym (held_side c side k t (sym ea ∙ y) (sym ef ∙ h) (sound (block k t)) refl)
+pub side_held : (c side k : ℕ) (t w : List ℕ) (f : Slot) (way : Way) (x : SideRead) → (side_asked c side ≡ true) × (side ≡ side_no way) → f ≡ place_in c t → f ≡ Held k
+    → w ≡ block k t → x ≡ side_of_book (side_no way) w → x ≡ read_side c side t
+side_held c side k t w f way x a ef h ew q =
+    q ∙ ap (side_of_book (side_no way)) ew ∙ ap (λ (n : ℕ). side_of_book n (block k t)) (sym a.1)
+    ∙ sym (held_side c side k t a.0 (sym ef ∙ h) (sound (block k t)) refl)
 
 not-true : (b : Bool) → not b ≡ true → b ≡ false
 not-true false e = refl
@@ -268,22 +233,4 @@ level_is c side t rank l h =
     get_or-map level_of (reads_from (λ r. read_row c side r t) depth 1) (rank - 1) (row_refused 0)
     ∙ ap level_of (reads_at (λ r. read_row c side r t) depth 1 (rank - 1) (row_refused 0) (omega arith) ∙ ap (λ (r : ℕ). read_row c side r t) (omega arith))
 
-pub ruleset siding = (
-  showing,
-  copy_starts,
-  copy_price,
-  copy_goes,
-  copy_ends,
-  none_ten,
-  bids_few,
-  offers_few,
-  bids_priced,
-  offers_priced,
-  side_bids,
-  side_offers,
-  side_unsound,
-  side_slot,
-  side_unasked,
-  side_none,
-  side_held,
-)
+pub ruleset siding = (showing, level_shown, side_whole, book_side, side_unsound, side_unasked, side_none, side_held)

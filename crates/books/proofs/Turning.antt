@@ -86,6 +86,11 @@ module _ (own t : Bool) (w : List ℕ) (rows : List (List Row)) (counts : List �
       go true = refl
       go false = refl
 
+-- one that is not
+pub unready_turn : (own r : Bool) (w : List ℕ) (c : ℕ) (step : Book → Option Book) → r ≡ ready books own w → r ≡ false → landed 18 w ≡ slot_turn books own c step w
+unfolding slot_turn
+unready_turn own r w c step e n = rw (sym e ∙ n)
+
 pub unready_drops : (own r : Bool) (w : List ℕ) (time : ℕ) (es : List Entry) → r ≡ ready books own w → r ≡ false → 0 ≡ slot_drops own time es w
 unfolding slot_drops
 unready_drops own r w time es e n = rw (sym e ∙ n)
@@ -175,11 +180,11 @@ module _ (time : ℕ) (m t : List ℕ) (k c r : ℕ) (u : List ℕ) (ek : k ≡ 
       let makes : book_after time m ≡ walk time (entries m) = ap makes_by more in
       (rw (ec, ek, long_part m (omega (arith, h))) at q) ∙ rw (← makes) (turn_is books (step_of time m) t more) ∙ table_turn time m t
 
-  pub emptied_drops : k ≡ 0 → 0 ≡ rows_dropped time m t
+  pub emptied_drops : (d : ℕ) → d ≡ 0 → k ≡ 0 → d ≡ rows_dropped time m t
   unfolding rows_dropped
-  emptied_drops z =
+  emptied_drops d y z =
       let none : has_entries m ≡ false = le-ltb 0 (no_entries m) (omega (arith, ek, z)) in
-      rw none (sym (cond_same (eqb (book_answer time m t) 0) 0))
+      y ∙ rw none (sym (cond_same (eqb (book_answer time m t) 0) 0))
 
   pub placed_drops : (d : ℕ) → length m ≡ 12 + 24 * no_entries m → d ≡ place_drops (place_in c t) time (entries_from k 0 (part_of m)) t → (k ≡ 0 → ⊥) → d ≡ rows_dropped time m t
   unfolding rows_dropped book_answer unsound no_slot misfits
@@ -204,6 +209,7 @@ pub ruleset turning = (
   emptied_turn,
   placed_turn,
   ready_drops,
+  unready_turn,
   unready_drops,
   slot_drops_lem,
   held_drops,

@@ -1,5 +1,5 @@
 -- Reading a row by code, side and rank (document 01, "Reading a row"), and a side's rows at once. It writes nothing. Assumes nothing.
-use Rattle.std.specs.Prelude.{ℕ, zero, suc, ◌+◌, Bool, true, false, cond, not, ◌&&◌, List, [], ◌∷◌, map, length, pos, ltb, eqb}
+use Rattle.std.specs.Prelude.{ℕ, ℤ, zero, suc, ◌+◌, Bool, true, false, cond, not, ◌&&◌, List, [], ◌∷◌, map, length, pos, ltb, eqb}
 use Rattle.std.proofs.Math.IntN.{sub_ℕ}
 use Rattle.ground.specs.Choice.{first}
 use Rattle.wire.specs.Number.{bias}
@@ -12,8 +12,19 @@ use Rattle.ladder.specs.Walk.{Book}
 use Rattle.ladder.specs.declared.Row.{Row}
 use Rattle.books.specs.Table.{place_in, unsound_at, book_at}
 use Rattle.books.specs.declared.Level.{Level}
-use Rattle.books.specs.declared.RowRead.{RowRead}
-use Rattle.books.specs.declared.SideRead.{SideRead}
+
+-- what reading a row gives: the answer, and with answer 0 the row, its price signed as sent
+pub record RowRead : Type 0 where
+  pub answer : ℕ
+  pub price : ℤ
+  pub quantity : ℕ
+  pub orders : ℕ
+
+-- what reading a side gives: the answer, and with answer 0 how many rows there are, and the rows, best first
+pub record SideRead : Type 0 where
+  pub answer : ℕ
+  pub count : ℕ
+  pub rows : List Level
 
 -- no slot has the code
 unfoldable pub no_book : Slot → Bool

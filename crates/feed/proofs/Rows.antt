@@ -123,22 +123,22 @@ module _ (f : Feed) (b t m : List ℕ) (n q i : ℕ) (k : Kind) (a : k ≡ kind_
       met r j u p v w l =
           rw (l, p, v, w, zero_accepted (unsound_for (Market d) m x) (no_slot_for (Market d) m x) (misfits_for (Market d) n m x), tests_are) (met_by (eqb theirs 0) refl)
 
-    pub book_met : (r j : ℕ) (u : List ℕ) (o : Given) → d ≡ Book → landed r u ≡ book_turn n m b → j ≡ rows_dropped n m b
-        → o ≡ answered r (cond (accepted r) (advanced n (counted (Market Other) i f)) (in_phase Lost (whole_is false f))) → g ≡ dropped_is j o
+    pub book_met : (r j : ℕ) (u : List ℕ) → d ≡ Book → landed r u ≡ book_turn n m b → j ≡ rows_dropped n m b
+        → g ≡ dropped_is j (answered r (cond (accepted r) (advanced n (counted (Market Other) i f)) (in_phase Lost (whole_is false f))))
         → out_of g (lent u t) ≡ on_tables (state_of f (lent b t)) (Cut q i m n)
     unfolding tabled unsound_for no_slot_for misfits_for tables_after drops book_answer rows_dropped first
-    book_met r j u o h w v l k =
+    book_met r j u h w v l =
         met (rw h) r j (lent u t) (ap (λ (y : Landed). y.answer) w ∙ rw h)
-        (ap (λ (y : Landed). lent y.words t) w ∙ rw h (books_if (eqb (book_answer n m b) 0) (books_after n m b) b t)) (v ∙ rw h) (rw l at k)
+        (ap (λ (y : Landed). lent y.words t) w ∙ rw h (books_if (eqb (book_answer n m b) 0) (books_after n m b) b t)) (v ∙ rw h) l
 
-    pub strip_met : (r : ℕ) (u : List ℕ) → d ≡ Strip → landed r u ≡ turn strips (step_of m) t
-        → g ≡ answered r (cond (accepted r) (advanced n (counted (Market Other) i f)) (in_phase Lost (whole_is false f)))
+    pub strip_met : (r j a : ℕ) (u : List ℕ) → d ≡ Strip → (r ≡ a) × (j ≡ 0) → landed a u ≡ turn strips (step_of m) t
+        → g ≡ dropped_is j (answered r (cond (accepted r) (advanced n (counted (Market Other) i f)) (in_phase Lost (whole_is false f))))
         → out_of g (lent b u) ≡ on_tables (state_of f (lent b t)) (Cut q i m n)
     unfolding tabled unsound_for no_slot_for misfits_for tables_after drops answer misfit strip.unsound strip.no_slot strips_after first
-    strip_met r u h w l =
-        met (rw h) r 0 (lent b u) (ap (λ (y : Landed). y.answer) w ∙ rw h)
+    strip_met r j a u h z w l =
+        met (rw h) r j (lent b u) (z.0 ∙ ap (λ (y : Landed). y.answer) w ∙ rw h)
         (ap (λ (y : Landed). lent b y.words) w ∙ rw h (strips_if (eqb (answer strips (step_of m) t) 0) b (strips_after m t) t))
-        (rw h (sym (cond_same (eqb (answer strips (step_of m) t) 0) 0))) l
+        (z.1 ∙ rw h (sym (cond_same (eqb (answer strips (step_of m) t) 0) 0))) l
 
     pub other_met : (y : Feed) → d ≡ Other → y ≡ advanced n (counted (Market Other) i f) → g ≡ answered 2 y
         → out_of g (lent b t) ≡ on_tables (state_of f (lent b t)) (Cut q i m n)

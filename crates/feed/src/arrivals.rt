@@ -1,12 +1,14 @@
 // Arrivals of bytes and of messages already cut: judge, then act on the tables.
 ghost use Rattle.std.specs.Prelude.{◌≡◌, false, cond, ◌≤◌};
+ghost use Rattle.ground.specs.Refusals.{answer_of};
+ghost use Rattle.ladder.specs.Code.Arrays.{dropped_of};
 ghost use Rattle.feed.specs.Messages.{kind as kind_in, wrong_size};
 ghost use Rattle.feed.specs.Feeds.{in_phase, whole_is};
 ghost use Rattle.feed.specs.Events.{cleared_tables, Cut};
 ghost use Rattle.feed.specs.Promised.{ArriveSays, CutSays, OverrunSays};
 ghost use Rattle.feed.specs.Answers.{last_seq_num};
 ghost use Rattle.feed.specs.Steps.{advanced as advanced_at, counted, accepted, lent, state_of, out_of};
-ghost use Rattle.feed.specs.Code.Judging.{answered, on_tables};
+ghost use Rattle.feed.specs.Code.Judging.{answered, dropped_is, on_tables};
 
 use super::messages::Arrival;
 use super::{Datum, Feed, Given, Kind, Phase, Turn};
@@ -22,17 +24,25 @@ fn clear(books: &mut [u64], strips: &mut [u64])
     strips::clear(strips);
 }
 
+// What a table of strips took or refused; it drops no row.
+fn no_rows(taken: Result<(), Refusal>) -> Result<u64, Refusal>
+    ensures { (answer_of result ≡ answer_of taken) × (dropped_of result ≡ 0) }
+{
+    taken?;
+    Ok(0)
+}
+
 // What arrives, and all that is written.
 impl Feed {
-    // A market message, as its table answers it: taken, or Lost and not whole.
-    fn market(self, answer: u64, internal: u32, time: u64) -> Given
+    // A market message, as its table answers it: taken, with so many rows dropped, or Lost and not whole.
+    fn market(self, taken: Result<u64, Refusal>, internal: u32, time: u64) -> Given
         requires { self.next ≤ last_seq_num }
-        ensures { result ≡ answered answer (cond (accepted answer) (advanced_at time (counted (Kind.Market Datum.Other) internal self)) (in_phase Phase.Lost (whole_is false self))) }
+        ensures { result ≡ dropped_is (dropped_of taken) (answered (answer_of taken) (cond (accepted (answer_of taken)) (advanced_at time (counted (Kind.Market Datum.Other) internal self)) (in_phase Phase.Lost (whole_is false self)))) }
     {
-        if answer <= 2 {
-            return self.numbered(internal, time).kept(answer);
+        match taken {
+            Ok(dropped) => self.numbered(internal, time).kept(0).dropping(dropped),
+            Err(refusal) => self.spoilt(u64::from(refusal)),
         }
-        self.spoilt(answer)
     }
 
     // A message that the feed leaves to the tables: what they make of it, and of the feed. All that is written is written here.
@@ -57,12 +67,8 @@ impl Feed {
                 self.done(session, message, time).kept(0)
             }
             Kind::Market(datum) => match datum {
-                Datum::Book => {
-                    let told = books::take(books, message, time);
-                    self.market(told.answer, internal, time)
-                        .dropping(told.dropped)
-                }
-                Datum::Strip => self.market(strips::take(strips, message), internal, time),
+                Datum::Book => self.market(books::take(books, message, time), internal, time),
+                Datum::Strip => self.market(no_rows(strips::take(strips, message)), internal, time),
                 Datum::Other => self.numbered(internal, time).kept(2),
             },
         }

@@ -11,66 +11,20 @@ use lib.ListN.{length, take, drop, get_or, set, length-set, length-take}
 use borrow.Author.Rules.{rules}
 use borrow.Author.Tests.{lt-ltb, le-ltb, le-leb, lt-leb, eq-eqb, ne_eqb, leb-true, eqb-true, eqb-false}
 use Rattle.ground.specs.Choice.{pick}
-use Rattle.ground.proofs.Bools.{both, cond_same, cond_test}
+use Rattle.ground.proofs.Bools.{both}
 use Rattle.ladder.specs.Message.{depth, listed_rank}
 use Rattle.ladder.specs.Sides.{better, no_row, row_at, has, new_fits, new_rows, change_fits, change_rows, delete_fits, delete_rows, fits, rows_after, pushed_out, fell_from, was_dropped}
 use Rattle.ladder.specs.Words.{pad}
-use Rattle.ladder.specs.Code.Arrays.{Side, live, Padded, fits_at, way_of, ten_after, count_after, drops_tenth, applied_to}
+use Rattle.ladder.specs.Code.Arrays.{Side, live, Padded, fits_at, way_of, ten_after, count_after, drops_tenth, applied_by, applied_to}
 use Rattle.ladder.specs.declared.Way.{Way}
-use Rattle.ladder.specs.declared.Way.TheVariants.{Bid, Offer}
 use Rattle.ladder.specs.declared.Row.{Row}
 use Rattle.ladder.specs.declared.Entry.{Entry}
-use Rattle.ladder.specs.declared.Applied.{Applied}
+use Rattle.std.specs.Prelude.{is_some, unwrap_or}
+use Rattle.std.specs.Bool.{then_some}
+use Rattle.std.specs.declared.option.Option as std-option
 use Rattle.slots.specs.Layout.{or_as_it_was}
 use Rattle.ladder.proofs.Shift.{ins, del, length_ins, length_del, get_d_after}
 use Rattle.ladder.proofs.Pads.{live_n, live_at, pad_new, pad_change, pad_delete}
-
-pub bid_better : (w : Way) (a b : ℕ) → w ≡ Bid → ltb b a ≡ better w a b
-unfolding better
-bid_better w a b e = rw e
-
-pub offer_better : (w : Way) (a b : ℕ) → w ≡ Offer → ltb a b ≡ better w a b
-unfolding better
-offer_better w a b e = rw e
-
-pub below_none : (w : Way) (p above price : ℕ) → p ≤ 1 → true ≡ (leb p 1 || better w above price)
-below_none w p above price h = rw (le-leb p 1 h)
-
-pub below_one : (w : Way) (p above price : ℕ) (r : Bool) → 1 < p → r ≡ better w above price → r ≡ (leb p 1 || better w above price)
-below_one w p above price r h e = rw (lt-leb p 1 h) e
-
-pub above_none : (w : Way) (n p old price : ℕ) → n < p → true ≡ (ltb n p || better w price old)
-above_none w n p old price h = rw (lt-ltb n p h)
-
-pub above_one : (w : Way) (n p old price : ℕ) (r : Bool) → p ≤ n → r ≡ better w price old → r ≡ (ltb n p || better w price old)
-above_one w n p old price r h e = rw (le-ltb n p h) e
-
-pub new_far : (w : Way) (n p above old price : ℕ) → n + 1 < p → false ≡ fits_at w 0 n p above old price
-unfolding fits_at pick
-new_far w n p above old price h = rw (lt-leb p (n + 1) h)
-
-pub new_near : (w : Way) (n p above old price : ℕ) (b r : Bool) → p ≤ n + 1 → b ≡ (leb p 1 || better w above price) → b ≡ true → r ≡ (ltb n p || better w price old) → r ≡ fits_at w 0 n p above old price
-unfolding fits_at pick
-new_near w n p above old price b r h e t q = rw (le-leb p (n + 1) h, ← e, t) q
-
-pub new_not : (w : Way) (n p above old price : ℕ) (b : Bool) → p ≤ n + 1 → b ≡ (leb p 1 || better w above price) → b ≡ false → false ≡ fits_at w 0 n p above old price
-unfolding fits_at pick
-new_not w n p above old price b h e t = rw (le-leb p (n + 1) h, ← e, t)
-
-pub is_new : (w : Way) (n p above old price : ℕ) (r : Bool) (action : ℕ) → action ≡ 0 → r ≡ fits_at w 0 n p above old price → r ≡ fits_at w action n p above old price
-is_new w n p above old price r action e q = rw e q
-
-pub is_far : (w : Way) (n p above old price : ℕ) (action : ℕ) → (action ≡ 0 → ⊥) → n < p → false ≡ fits_at w action n p above old price
-unfolding fits_at pick
-is_far w n p above old price action z h = rw (ne_eqb action 0 z, lt-leb p n h) (sym (ap (cond (eqb action 1) false) (cond_same (eqb action 2) false) ∙ cond_same (eqb action 1) false))
-
-pub is_change : (w : Way) (n p above old price : ℕ) (action : ℕ) → p ≤ n → action ≡ 1 → eqb price old ≡ fits_at w action n p above old price
-unfolding fits_at pick
-is_change w n p above old price action h e = rw (e, le-leb p n h)
-
-pub is_delete : (w : Way) (n p above old price : ℕ) (action : ℕ) → (action ≡ 0 → ⊥) → p ≤ n → (action ≡ 1 → ⊥) → eqb action 2 ≡ fits_at w action n p above old price
-unfolding fits_at pick
-is_delete w n p above old price action z h o = rw (ne_eqb action 0 z, ne_eqb action 1 o, le-leb p n h) (sym (cond_test (eqb action 2)))
 
 -- the tests of specs/Sides on a side's rows are those on the numbers read from its ten
 module _ (w : Way) (s : Side) (pad : Padded s) (p : ℕ) (rank : 1 ≤ p) (x : ℕ) where
@@ -268,15 +222,21 @@ module _ (w : Way) (s : Side) (e : Entry) (p : Padded s) (h : fits w e (live s) 
       go true t = (refl, t refl)
       go false t = (refl, refl)
 
-  pub applied_is : (rows : List Row) (count : ℕ) (dropped : Bool) (last : Row) → rows ≡ ten_after e s.rows → count ≡ count_after e.action s.n
-      → dropped ≡ drops_tenth e.action s.n → last ≡ cond dropped (get_or s.rows 9 no_row) no_row
-      → ◌≡◌ {A = Applied} (record { rows = rows; count = count; dropped = dropped; last = last }) (applied_to e (live s))
+  -- it tells the row that it drops, and whether there is one
+  told : (b : Bool) (r : Row) → (is_some (then_some b r) ≡ b) × (unwrap_or (then_some b r) no_row ≡ cond b r no_row)
+  told true r = (refl, refl)
+  told false r = (refl, refl)
+
+  pub applied_is : (rows : List Row) (count : ℕ) (dropped : Bool) (last : std-option.Option Row) → rows ≡ ten_after e s.rows → count ≡ count_after e.action s.n
+      → dropped ≡ drops_tenth e.action s.n → last ≡ then_some dropped (get_or s.rows 9 no_row)
+      → applied_by (record { rows = rows; count = count; last = last }) ≡ applied_to e (live s)
   applied_is rows count dropped last er ec ed el =
+      let t = told dropped (get_or s.rows 9 no_row) in
       λ i. record {
         rows = (er ∙ ten_after_lem) i;
         count = (ec ∙ count_is) i;
-        dropped = (ed ∙ dropped_is_lem.0) i;
-        last = (el ∙ ap (λ (b : Bool). cond b (get_or s.rows 9 no_row) no_row) ed ∙ dropped_is_lem.1) i;
+        dropped = (ap is_some el ∙ t.0 ∙ ed ∙ dropped_is_lem.0) i;
+        last = (ap (λ (o : std-option.Option Row). unwrap_or o no_row) el ∙ t.1 ∙ ap (λ (b : Bool). cond b (get_or s.rows 9 no_row) no_row) ed ∙ dropped_is_lem.1) i;
       }
 
 -- the same, as the code has a side
@@ -287,45 +247,8 @@ module _ (e : Entry) (n : ℕ) (rows : List Row) (p : Padded (record { n = n; ro
   pub apply_one : (eqb e.action 0 || leb 1 n) ≡ true
   apply_one = has_one (way_of e.side) (record { n = n; rows = rows }) e p f
 
-  pub apply_done : (x : List Row) (m : ℕ) (d : Bool) (l z : Row) → x ≡ ten_after e rows → m ≡ count_after e.action n → d ≡ drops_tenth e.action n → z ≡ no_row → l ≡ cond d (get_or rows 9 no_row) z
-      → ◌≡◌ {A = Applied} (record { rows = x; count = m; dropped = d; last = l }) (applied_to e (take n rows))
-  apply_done x m d l z ex em ed ez el =
-      applied_is (way_of e.side) (record { n = n; rows = rows }) e p f x m d l ex em ed (el ∙ ap (λ (r : Row). cond d (get_or rows 9 no_row) r) ez)
+  pub apply_done : (x : List Row) (m : ℕ) (d : Bool) (l : std-option.Option Row) → x ≡ ten_after e rows → m ≡ count_after e.action n → d ≡ drops_tenth e.action n
+      → l ≡ then_some d (get_or rows 9 no_row) → applied_by (record { rows = x; count = m; last = l }) ≡ applied_to e (take n rows)
+  apply_done x m d l ex em ed el = applied_is (way_of e.side) (record { n = n; rows = rows }) e p f x m d l ex em ed el
 
 pub ruleset applying = (rules, apply_rank, apply_one, apply_done)
-
--- whether an entry drops the tenth row, by its action
-pub drops_new : (action n : ℕ) → action ≡ 0 → leb depth n ≡ drops_tenth action n
-unfolding drops_tenth
-drops_new action n e = rw (eq-eqb action 0 e)
-
-pub drops_none : (action n : ℕ) → (action ≡ 0 → ⊥) → false ≡ drops_tenth action n
-unfolding drops_tenth
-drops_none action n e = rw (ne_eqb action 0 e)
-
-pub way_bid : (side : ℕ) → side ≡ 0 → Bid ≡ way_of side
-way_bid side e = rw (eq-eqb side 0 e)
-
-pub way_offer : (side : ℕ) → (side ≡ 0 → ⊥) → Offer ≡ way_of side
-way_offer side e = rw (ne_eqb side 0 e)
-
-pub ruleset fitting = (
-  rules,
-  bid_better,
-  offer_better,
-  below_none,
-  below_one,
-  above_none,
-  above_one,
-  new_far,
-  new_near,
-  new_not,
-  is_new,
-  is_far,
-  is_change,
-  is_delete,
-  drops_new,
-  drops_none,
-  way_bid,
-  way_offer,
-)

@@ -12,15 +12,14 @@ use lib.Dec.{ltb, leb, eqb}
 use lib.ListN.{length, take, drop, get_or, length-drop, drop_of_length-le}
 use lib.Seq.{drop-cons, get_or-take, get_or-drop, length-take-le}
 use borrow.Author.Rules.{rules}
-use borrow.Author.Tests.{lt-ltb, ltb-true, le-leb, lt-leb, leb-true, eq-eqb, ne_eqb, eqb-true}
+use borrow.Author.Tests.{lt-ltb, ltb-true, le-leb, lt-leb, leb-true, eq-eqb, eqb-true}
 use Rattle.ground.specs.Choice.{all}
 use Rattle.wire.specs.Number.{word32}
 use Rattle.ground.proofs.Bools.{both, join, split}
 use Rattle.ladder.specs.Sides.{better, no_row}
-use Rattle.ladder.specs.Words.{row_width, side_width, bids_at, offers_at, row_of, rows_from, best_first, bounded, zero_row, sound_side, sound}
-use Rattle.ladder.specs.Code.Loading.{in_order, used_of, lows_of, sound_words}
+use Rattle.ladder.specs.Words.{row_width, side_width, row_of, rows_from, best_first, bounded, zero_row, sound_side}
+use Rattle.ladder.specs.Code.Loading.{rows_at, in_order, used_of, lows_of, sound_words}
 use Rattle.ladder.specs.declared.Way.{Way}
-use Rattle.ladder.specs.declared.Way.TheVariants.{Bid, Offer}
 use Rattle.ladder.specs.declared.Row.{Row}
 use Rattle.ladder.proofs.Loads.{rows_ten, row_is}
 use Rattle.ladder.proofs.Tells.{all_of, bounded_is, side_few, unused_zero, used_bounded, side_rows}
@@ -236,10 +235,10 @@ module _ (base : ℕ) (w : List ℕ) where
       go true c = omega (arith, c, p.same)
       go false c = omega (arith, c)
 
-  pub order_ends : (way : Way) (found i : ℕ) → Ordering way found i → i ≤ 0 → found ≡ in_order way (rows_from base w)
-  order_ends way found i p h =
+  pub order_ends : (way : Way) (found i : ℕ) → base ≡ rows_at way → Ordering way found i → i ≤ 0 → found ≡ in_order way (rows_from (rows_at way) w)
+  order_ends way found i e p h =
       let z : i ≡ 0 = omega arith in
-      p.same ∙ rw (z, zero-add)
+      p.same ∙ rw (z, zero-add, e)
 
   -- the first i rows are looked at
   pub record Looking (used lows i : ℕ) : Type 0 where
@@ -264,20 +263,20 @@ module _ (base : ℕ) (w : List ℕ) where
         low = rw (add-one i) (λ k. bit_or (p.low k) (bit_or (s k).price (s k).orders));
       }
 
-  pub look_far : (used lows i n : ℕ) → Looking used lows i → depth ≤ i → n < used → false ≡ sound_words n (rows_from base w)
+  pub look_far : (way : Way) (used lows i n : ℕ) → base ≡ rows_at way → Looking used lows i → depth ≤ i → n < used → leb used n ≡ sound_words n (rows_from (rows_at way) w)
   unfolding sound_words
-  look_far used lows i n p h t =
+  look_far way used lows i n e p h t =
       let z : i ≡ depth = omega (arith, p.upto) in
       let f : used ≡ used_of depth (rows_from base w) = p.far ∙ ap (λ (k : ℕ). used_of k (rows_from base w)) z in
-      rw (lt-leb (used_of depth (rows_from base w)) n (omega (arith, f)))
+      rw (← e, lt-leb used n t, lt-leb (used_of depth (rows_from base w)) n (omega (arith, f)))
 
-  pub look_low : (used lows i n : ℕ) → Looking used lows i → depth ≤ i → used ≤ n → ltb lows word32 ≡ sound_words n (rows_from base w)
+  pub look_low : (way : Way) (used lows i n : ℕ) → base ≡ rows_at way → Looking used lows i → depth ≤ i → used ≤ n → ltb lows word32 ≡ sound_words n (rows_from (rows_at way) w)
   unfolding sound_words
-  look_low used lows i n p h t =
+  look_low way used lows i n e p h t =
       let z : i ≡ depth = omega (arith, p.upto) in
       let f : used ≡ used_of depth (rows_from base w) = p.far ∙ ap (λ (k : ℕ). used_of k (rows_from base w)) z in
       let g : lows ≡ lows_of depth (rows_from base w) = p.low ∙ ap (λ (k : ℕ). lows_of k (rows_from base w)) z in
-      rw (le-leb (used_of depth (rows_from base w)) n (omega (arith, f)), g)
+      rw (← e, le-leb (used_of depth (rows_from base w)) n (omega (arith, f)), g)
 
   -- the two tests of a side
   pub side_unordered : (way : Way) (n o : ℕ) → o ≡ in_order way (rows_from base w) → o < n → false ≡ sound_side way n (rows_from base w)
@@ -288,31 +287,4 @@ module _ (base : ℕ) (w : List ℕ) where
       let rows : List Row = rows_from base w in
       q ∙ same_test (sound_words n rows) (sound_side way n rows) (words_sound way n rows (rows_ten base w) (omega (arith, e))) (sound_words_lem way n rows (rows_ten base w))
 
--- the three tests of a book
-pub spare_used : (w : List ℕ) → (get_or w 3 0 ≡ 0 → ⊥) → false ≡ sound w
-unfolding sound
-spare_used w h = rw (ne_eqb (get_or w 3 0) 0 h)
-
-pub bids_unsound : (w : List ℕ) (t : Bool) → get_or w 3 0 ≡ 0 → t ≡ sound_side Bid (get_or w 1 0) (rows_from bids_at w) → t ≡ false → false ≡ sound w
-unfolding sound
-bids_unsound w t z e n = rw (eq-eqb (get_or w 3 0) 0 z, ← e, n)
-
-pub both_sides : (w : List ℕ) (t b : Bool) → get_or w 3 0 ≡ 0 → t ≡ sound_side Bid (get_or w 1 0) (rows_from bids_at w) → t ≡ true → b ≡ sound_side Offer (get_or w 2 0) (rows_from offers_at w) → b ≡ sound w
-unfolding sound
-both_sides w t b z e y q = rw (eq-eqb (get_or w 3 0) 0 z, ← e, y) q
-
-pub ruleset judges = (
-  rules,
-  order_starts,
-  order_goes,
-  order_ends,
-  look_starts,
-  look_goes,
-  look_far,
-  look_low,
-  side_unordered,
-  side_ordered,
-  spare_used,
-  bids_unsound,
-  both_sides,
-)
+pub ruleset judges = (rules, order_starts, order_goes, order_ends, look_starts, look_goes, look_far, look_low, side_unordered, side_ordered)

@@ -1,6 +1,7 @@
 pub mod Shift
 pub mod Pads
 pub mod Fills
+pub mod Made
 pub mod Moves
 pub mod Fits
 pub mod Walks

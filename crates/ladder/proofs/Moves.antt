@@ -1,62 +1,46 @@
 -- Ten rows after an entry, each chosen by its place (new_rows, delete_rows of specs/Sides, ten_after of specs/Arrays). Assumes nothing.
-use Prim.Native.Nat.{ℕ, zero, suc, ◌+◌, ◌-◌, ◌≤◌, ◌<◌, min}
+use Prim.Native.Nat.{ℕ, zero, suc, ◌+◌, ◌-◌, ◌<◌}
 use mathlib.Core.Path.{◌≡◌, sym, ◌∙◌}
-use mathlib.Core.Bool.{Bool, true, false, cond, ◌||◌}
+use mathlib.Core.Bool.{cond}
 use mathlib.Core.List.{List, [], ◌∷◌, ◌++◌}
 use native.Mathlib.Decide.{dec_lt}
 use native.Mathlib.Numerals.{add-one}
 use native.Mathlib.Omega.{arith}
 use lib.Dec.{ltb, leb, eqb}
-use lib.ListN.{length, take, get_or, set, length-set, length-append, get_or-append}
+use lib.ListN.{length, take, get_or, set, length-append, get_or-append}
 use lib.Seq.{get_or-take, get_or_at, get_or-set_same, get_or-set_other, length-take-le}
-use borrow.Author.Rules.{rules}
-use borrow.Author.Tests.{lt-ltb, le-ltb, le-leb, lt-leb, leb-true, eq-eqb, ne_eqb}
-use Rattle.ground.specs.Choice.{pick}
+use borrow.Author.Tests.{lt-ltb, le-ltb, le-leb, lt-leb, eq-eqb, ne_eqb}
 use Rattle.ladder.specs.Sides.{no_row, new_rows, delete_rows}
-use Rattle.ladder.specs.Words.{no_rows}
-use Rattle.ladder.specs.Code.Arrays.{empty_rows, ten_after, count_after}
 use Rattle.ladder.specs.declared.Row.{Row}
-use Rattle.ladder.specs.declared.Entry.{Entry}
 use Rattle.ladder.proofs.Shift.{ins, del, length_ins, length_del, get_d_ins, get_d_before, get_d_after, get_d_del}
-use Rattle.ladder.proofs.Fills.{Filled, fill_none, fill_one, fill_all}
 use Rattle.ladder.specs.Message.{depth}
-
--- no rows on either side
-pub no_rows_lem : (r : Row) → r ≡ no_row
-    → ◌≡◌ {A = List (List Row)} ((r ∷ r ∷ r ∷ r ∷ r ∷ r ∷ r ∷ r ∷ r ∷ r ∷ []) ∷ (r ∷ r ∷ r ∷ r ∷ r ∷ r ∷ r ∷ r ∷ r ∷ r ∷ []) ∷ []) empty_rows
-unfolding no_rows
-no_rows_lem r e = rw e
-
--- a row chosen word by word
-pub row_chosen : (c : Bool) (a b : Row) (p q o : ℕ) → p ≡ cond c a.price b.price → q ≡ cond c a.quantity b.quantity → o ≡ cond c a.orders b.orders
-    → ◌≡◌ {A = Row} (record { price = p; quantity = q; orders = o }) (cond c a b)
-row_chosen true a b p q o x y z = λ i. record { price = x i; quantity = y i; orders = z i }
-row_chosen false a b p q o x y z = λ i. record { price = x i; quantity = y i; orders = z i }
 
 module _ (rows : List Row) (ten : length rows ≡ depth) (at : ℕ) where
   -- ten rows with one put in, and row i of them
-  new_ten : (row : Row) → at < depth → length (new_rows (at + 1) row rows) ≡ depth
+  pub new_ten : (row : Row) → at < depth → length (new_rows (at + 1) row rows) ≡ depth
   unfolding new_rows
   new_ten row h =
       let k : (at + 1) - 1 ≡ at = omega arith in
       rw k (length-take-le depth (ins at row rows) (omega (arith, length_ins no_row rows at row (omega arith))))
 
-  new_at : (row : Row) (i : ℕ) → at < depth → i < depth → cond (ltb at i) (get_or (no_row ∷ rows) i no_row) (cond (eqb i at) row (get_or rows i no_row)) ≡ get_or (new_rows (at + 1) row rows) i no_row
+  pub new_at : (row : Row) (i : ℕ) → at < depth → i < depth → cond (ltb at i) (get_or rows (i - 1) no_row) (cond (eqb i at) row (get_or rows i no_row)) ≡ get_or (new_rows (at + 1) row rows) i no_row
   unfolding new_rows
   new_at row i h t =
       let k : (at + 1) - 1 ≡ at = omega arith in
       rw k (go i (dec_lt at i) (dec_lt i at) ∙ sym (get_or-take depth (ins at row rows) i no_row t))
     where
-      go : (i : ℕ) → Dec (at < i) → Dec (i < at) → cond (ltb at i) (get_or (no_row ∷ rows) i no_row) (cond (eqb i at) row (get_or rows i no_row)) ≡ get_or (ins at row rows) i no_row
+      go : (i : ℕ) → Dec (at < i) → Dec (i < at) → cond (ltb at i) (get_or rows (i - 1) no_row) (cond (eqb i at) row (get_or rows i no_row)) ≡ get_or (ins at row rows) i no_row
       go zero (yes a) b = absurd (omega arith)
-      go (suc j) (yes a) b = rw (lt-ltb at (suc j) a) (sym (get_d_after no_row at j row rows (omega arith) (omega arith)))
+      go (suc j) (yes a) b =
+          let e : suc j - 1 ≡ j = omega arith in
+          rw (lt-ltb at (suc j) a, e) (sym (get_d_after no_row at j row rows (omega arith) (omega arith)))
       go i (no a) (yes b) = rw (le-ltb at i (omega arith), ne_eqb i at (λ e. omega arith)) (sym (get_d_before no_row rows at i row b (omega arith)))
       go i (no a) (no b) =
           let e : i ≡ at = omega arith in
           rw (le-ltb at i (omega arith), eq-eqb i at e, e) (sym (get_d_ins no_row rows at row (omega arith)))
 
   -- row i of ten rows with one replaced
-  set_one : (row : Row) (i : ℕ) → i < depth → cond (eqb i at) row (get_or rows i no_row) ≡ get_or (set rows at row) i no_row
+  pub set_one : (row : Row) (i : ℕ) → i < depth → cond (eqb i at) row (get_or rows i no_row) ≡ get_or (set rows at row) i no_row
   set_one row i t = go (dec_lt i at) (dec_lt at i)
     where
       go : Dec (i < at) → Dec (at < i) → cond (eqb i at) row (get_or rows i no_row) ≡ get_or (set rows at row) i no_row
@@ -70,15 +54,15 @@ module _ (rows : List Row) (ten : length rows ≡ depth) (at : ℕ) where
   short : at < depth → length (del at rows) ≡ 9
   short h = omega (arith, length_del no_row rows at (omega arith))
 
-  gone_ten : at < depth → length (delete_rows (at + 1) rows ++ (no_row ∷ [])) ≡ depth
+  pub gone_ten : at < depth → length (delete_rows (at + 1) rows ++ (no_row ∷ [])) ≡ depth
   unfolding delete_rows
   gone_ten h =
       let k : (at + 1) - 1 ≡ at = omega arith in
       rw (k, add-one at, length-append) (omega (arith, short h))
 
-  gone_at : (i : ℕ) → at < depth → i < 9 → cond (leb at i) (get_or rows (i + 1) no_row) (get_or rows i no_row) ≡ get_or (delete_rows (at + 1) rows ++ (no_row ∷ [])) i no_row
+  gone_front : (i : ℕ) → at < depth → i < 9 → cond (leb at i) (get_or rows (i + 1) no_row) (get_or rows i no_row) ≡ get_or (delete_rows (at + 1) rows ++ (no_row ∷ [])) i no_row
   unfolding delete_rows
-  gone_at i h t =
+  gone_front i h t =
       let k : (at + 1) - 1 ≡ at = omega arith in
       rw (k, add-one at, add-one i) (go (dec_lt i at) ∙ sym (get_or-append (del at rows) (no_row ∷ []) no_row i (omega (arith, short h))))
     where
@@ -94,121 +78,11 @@ module _ (rows : List Row) (ten : length rows ≡ depth) (at : ℕ) where
       let k : (at + 1) - 1 ≡ at = omega arith in
       rw (k, add-one at) (get_or_at (del at rows) no_row [] no_row 9 (short h))
 
--- a row put in: the first i of ten rows are chosen, and the row above the next is at hand
-pub record Putting (at : ℕ) (row : Row) (rows next : List Row) (above : Row) (i : ℕ) : Type 0 where
-  pub place : at < depth
-  pub ten : length rows ≡ depth
-  pub over : above ≡ get_or (no_row ∷ rows) i no_row
-  pub filled : Filled (new_rows (at + 1) row rows) next i
-
-pub put_starts : (at : ℕ) (row : Row) (rows : List Row) (z : Row) → at < depth → length rows ≡ depth → z ≡ no_row → Putting at row rows rows z 0
-put_starts at row rows z h t e = record { place = h; ten = t; over = e; filled = fill_none (new_rows (at + 1) row rows) rows (new_ten rows t at row h) t }
-
-pub put_goes : (at : ℕ) (row : Row) (rows next : List Row) (above s r : Row) (i : ℕ) → Putting at row rows next above i → i < depth
-    → s ≡ cond (eqb i at) row (get_or rows i no_row) → r ≡ cond (ltb at i) above s → Putting at row rows (set next i r) (get_or rows i no_row) (i + 1)
-put_goes at row rows next above s r i p h es er = record {
-  place = p.place;
-  ten = p.ten;
-  over = rw (add-one i);
-  filled = fill_one no_row (new_rows (at + 1) row rows) next i r p.filled h (er ∙ (λ j. cond (ltb at i) (p.over j) (es j)) ∙ new_at rows p.ten at row i p.place h);
-}
-
-pub put_ends : (at : ℕ) (row : Row) (rows next : List Row) (above : Row) (i : ℕ) → Putting at row rows next above i → depth ≤ i → next ≡ new_rows (at + 1) row rows
-put_ends at row rows next above i p h = fill_all (new_rows (at + 1) row rows) next i p.filled h
-
--- a row replaced: the first i of ten rows are chosen
-pub record Setting (at : ℕ) (row : Row) (rows next : List Row) (i : ℕ) : Type 0 where
-  pub ten : length rows ≡ depth
-  pub filled : Filled (set rows at row) next i
-
-pub set_starts : (at : ℕ) (row : Row) (rows : List Row) → length rows ≡ depth → Setting at row rows rows 0
-set_starts at row rows t = record { ten = t; filled = fill_none (set rows at row) rows (length-set rows at row ∙ t) t }
-
-pub set_goes : (at : ℕ) (row : Row) (rows next : List Row) (r : Row) (i : ℕ) → Setting at row rows next i → i < depth
-    → r ≡ cond (eqb i at) row (get_or rows i no_row) → Setting at row rows (set next i r) (i + 1)
-set_goes at row rows next r i p h e = record { ten = p.ten; filled = fill_one no_row (set rows at row) next i r p.filled h (e ∙ set_one rows p.ten at row i h) }
-
-pub set_ends : (at : ℕ) (row : Row) (rows next : List Row) (i : ℕ) → Setting at row rows next i → depth ≤ i → next ≡ set rows at row
-set_ends at row rows next i p h = fill_all (set rows at row) next i p.filled h
-
--- a row taken out: the first i of nine rows are chosen
-pub record Dropping (at : ℕ) (rows next : List Row) (i : ℕ) : Type 0 where
-  pub place : at < depth
-  pub under : i ≤ 9
-  pub ten : length rows ≡ depth
-  pub filled : Filled (delete_rows (at + 1) rows ++ (no_row ∷ [])) next i
-
-pub drop_starts : (at : ℕ) (rows : List Row) → at < depth → length rows ≡ depth → Dropping at rows rows 0
-drop_starts at rows h t = record { place = h; under = omega arith; ten = t; filled = fill_none (delete_rows (at + 1) rows ++ (no_row ∷ [])) rows (gone_ten rows t at h) t }
-
-pub drop_goes : (at : ℕ) (rows next : List Row) (r : Row) (i : ℕ) → Dropping at rows next i → i < 9
-    → r ≡ cond (leb at i) (get_or rows (i + 1) no_row) (get_or rows i no_row) → Dropping at rows (set next i r) (i + 1)
-drop_goes at rows next r i p h e = record {
-  place = p.place;
-  under = omega arith;
-  ten = p.ten;
-  filled = fill_one no_row (delete_rows (at + 1) rows ++ (no_row ∷ [])) next i r p.filled (omega arith) (e ∙ gone_at rows p.ten at i p.place h);
-}
-
-pub drop_ends : (at : ℕ) (rows next : List Row) (z : Row) (i : ℕ) → Dropping at rows next i → 9 ≤ i → z ≡ no_row → set next 9 z ≡ delete_rows (at + 1) rows ++ (no_row ∷ [])
-drop_ends at rows next z i p h e =
-    let n : 9 ≡ i = omega (arith, p.under) in
-    let want : List Row = delete_rows (at + 1) rows ++ (no_row ∷ []) in
-    fill_all want (set next 9 z) depth
-    (fill_one no_row want next 9 z (rw n p.filled) (omega arith) (e ∙ sym (gone_last rows p.ten at p.place))) (omega arith)
-
--- ten rows after an entry, by its action
-pub after_new : (e : Entry) (rows r : List Row) → (1 ≤ e.level) × (e.level ≤ depth) → e.action ≡ 0 → r ≡ new_rows (e.level - 1 + 1) e.row rows → r ≡ ten_after e rows
-unfolding ten_after pick
-after_new e rows r p a q =
-    let k : e.level - 1 + 1 ≡ e.level = omega (arith, p.0) in
-    q ∙ rw (k, a)
-
-pub after_change : (e : Entry) (rows r : List Row) → e.action ≡ 1 → r ≡ set rows (e.level - 1) e.row → r ≡ ten_after e rows
-unfolding ten_after pick
-after_change e rows r a q = q ∙ rw a
-
-pub after_delete : (e : Entry) (rows r : List Row) → (1 ≤ e.level) × (e.level ≤ depth) → (e.action ≡ 0 → ⊥) → (e.action ≡ 1 → ⊥)
-    → r ≡ delete_rows (e.level - 1 + 1) rows ++ (no_row ∷ []) → r ≡ ten_after e rows
-unfolding ten_after pick
-after_delete e rows r p a b q =
-    let k : e.level - 1 + 1 ≡ e.level = omega (arith, p.0) in
-    q ∙ rw (k, ne_eqb e.action 0 a, ne_eqb e.action 1 b)
-
--- a count after an entry, by its action
-pub count_new : (n action r : ℕ) → action ≡ 0 → r ≡ min depth (n + 1) → r ≡ count_after action n
-unfolding count_after pick
-count_new n action r a q = q ∙ rw a
-
-pub count_change : (n action : ℕ) → action ≡ 1 → n ≡ count_after action n
-unfolding count_after pick
-count_change n action a = rw a
-
-pub count_room : (n action : ℕ) → (eqb action 0 || leb 1 n) ≡ true → (action ≡ 0 → ⊥) → 1 ≤ n
-count_room n action p a = leb-true 1 n (rw (ne_eqb action 0 a) at p)
-
-pub count_delete : (n action : ℕ) → (action ≡ 0 → ⊥) → (action ≡ 1 → ⊥) → n - 1 ≡ count_after action n
-unfolding count_after pick
-count_delete n action a b = rw (ne_eqb action 0 a, ne_eqb action 1 b)
-
-pub ruleset moves = (
-  rules,
-  no_rows_lem,
-  row_chosen,
-  put_starts,
-  put_goes,
-  put_ends,
-  set_starts,
-  set_goes,
-  set_ends,
-  drop_starts,
-  drop_goes,
-  drop_ends,
-  after_new,
-  after_change,
-  after_delete,
-  count_new,
-  count_change,
-  count_room,
-  count_delete,
-)
+  pub gone_at : (i : ℕ) → at < depth → i < depth → cond (leb at i) (cond (ltb i 9) (get_or rows (i + 1) no_row) no_row) (get_or rows i no_row) ≡ get_or (delete_rows (at + 1) rows ++ (no_row ∷ [])) i no_row
+  gone_at i h t = go (dec_lt i 9)
+    where
+      go : Dec (i < 9) → cond (leb at i) (cond (ltb i 9) (get_or rows (i + 1) no_row) no_row) (get_or rows i no_row) ≡ get_or (delete_rows (at + 1) rows ++ (no_row ∷ [])) i no_row
+      go (yes d) = rw (lt-ltb i 9 d) (gone_front i h d)
+      go (no d) =
+          let e : i ≡ 9 = omega arith in
+          rw (e, le-leb at 9 (omega arith)) (sym (gone_last h))

@@ -1,57 +1,33 @@
 -- Entries as they are read, judged and walked over (specs/Message, specs/Walk). Assumes nothing.
 use Prim.Native.Nat.{ℕ, zero, suc, ◌+◌, ◌-◌, ◌*◌, ◌≤◌, ◌<◌}
 use mathlib.Core.Path.{◌≡◌, refl, ap, sym, ◌∙◌, subst}
-use mathlib.Core.Bool.{Bool, true, false, cond}
+use mathlib.Core.Bool.{Bool, true, false, cond, ◌&&◌}
 use mathlib.Core.List.{List, [], ◌∷◌, ◌++◌}
 use mathlib.Core.Option.{Option, none, some, map, bind}
 use native.Mathlib.Omega.{arith}
-use lib.Dec.{leb, eqb}
+use lib.Dec.{eqb}
 use lib.ListN.{length, take, drop, get_or, set, length-set, length-append, length-take, length-drop}
 use lib.Seq.{get_or-set_same, get_or-set_other}
 use borrow.Author.Rules.{rules}
-use borrow.Author.Tests.{le-leb, lt-leb, eq-eqb, ne_eqb}
+use borrow.Author.Tests.{eq-eqb, ne_eqb}
+use Rattle.std.specs.List.{list_all, range_with_len}
 use Rattle.ground.specs.Choice.{one_of, pick, all}
-use Rattle.wire.specs.Number.{field, biased}
 use Rattle.ground.proofs.Bools.{cond_same, split}
 use Rattle.slots.specs.Layout.{landed, misfit, or_as_it_was}
-use Rattle.ladder.specs.Message.{depth, entry_size, entry_of, entry_at, entries_from, no_entries, has_entries, entries, listed_entry, listed_side, listed_rank}
+use Rattle.ladder.specs.Message.{depth, entry_size, entry_at, entries_from, no_entries, has_entries, entries, listed_entry, listed_side, listed_rank}
 use Rattle.ladder.specs.Sides.{no_row, new_rows, change_rows, delete_rows, fits, rows_after, fell_from, was_dropped, on_side}
 use Rattle.ladder.specs.Walk.{Book, empty_book, with_bids, with_offers, on_book, walk, fell_off, dropped, dropped_by, book_after, message_drops}
-use Rattle.ladder.specs.Code.Arrays.{Side, live, Padded, side_at, as_book, Sides, empty_rows, empty_counts, way_of, fits_at, applied_to, refused}
+use Rattle.ladder.specs.Code.Arrays.{Side, live, Padded, side_at, as_book, Sides, empty_rows, empty_counts, way_of, fits_at, Applied, applied_by, applied_to}
 use Rattle.ladder.specs.Code.Loading.{settled}
-use Rattle.ladder.specs.Words.{book_width, no_rows, words_of}
+use Rattle.ladder.specs.Words.{no_rows, words_of}
 use Rattle.ladder.specs.declared.Way.{Way}
 use Rattle.ladder.specs.declared.Way.TheVariants.{Bid, Offer}
 use Rattle.ladder.specs.declared.Row.{Row}
 use Rattle.ladder.specs.declared.Entry.{Entry}
-use Rattle.ladder.specs.declared.Applied.{Applied}
-use Rattle.ladder.specs.declared.Walked.{Walked}
+use Rattle.ladder.specs.declared.Applied as told
+use Rattle.std.specs.Prelude.{is_some}
 use Rattle.ladder.proofs.Pads.{live_n, live_of, padded_of}
 use Rattle.ladder.proofs.Fits.{fits_is}
-
-pub entry_made : (quantity raw orders side level action price : ℕ) → price ≡ biased raw
-    → ◌≡◌ {A = Entry} (record { row = record { price = price; quantity = quantity; orders = orders }; side = side; level = level; action = action }) (entry_of quantity raw orders side level action)
-entry_made quantity raw orders side level action price e = rw e
-
-pub entry_read : (e : Entry) (at : ℕ) (s : List ℕ) (q r o d l a : ℕ) → q ≡ field at 8 s → r ≡ field (at + 8) 4 s → o ≡ field (at + 12) 4 s → d ≡ field (at + 16) 2 s
-    → l ≡ field (at + 18) 1 s → a ≡ field (at + 19) 1 s → e ≡ entry_of q r o d l a → e ≡ entry_at at s
-entry_read e at s q r o d l a eq er eo ed el ea h = rw (h, eq, er, eo, ed, el, ea)
-
--- whether an entry is listed
-pub listed_clear : (e : Entry) → e.action ≡ 74 → true ≡ listed_entry e
-unfolding listed_entry
-listed_clear e a = rw (eq-eqb e.action 74 a)
-
-action_known : (x : ℕ) → x ≤ 2 → one_of x (0 ∷ 1 ∷ 2 ∷ []) ≡ true
-unfolding one_of
-action_known zero h = refl
-action_known (suc zero) h = refl
-action_known (suc (suc zero)) h = refl
-action_known (suc (suc (suc x))) h = absurd (omega arith)
-
-action_unknown : (x : ℕ) → 2 < x → one_of x (0 ∷ 1 ∷ 2 ∷ []) ≡ false
-unfolding one_of
-action_unknown x h = rw (ne_eqb x 0 (λ e. omega arith), ne_eqb x 1 (λ e. omega arith), ne_eqb x 2 (λ e. omega arith))
 
 pub side_known : (x : ℕ) → x ≤ 1 → listed_side x ≡ true
 unfolding listed_side one_of
@@ -63,21 +39,13 @@ pub side_unknown : (x : ℕ) → 1 < x → listed_side x ≡ false
 unfolding listed_side one_of
 side_unknown x h = rw (ne_eqb x 0 (λ e. omega arith), ne_eqb x 1 (λ e. omega arith))
 
-pub unlisted_action : (e : Entry) → (e.action ≡ 74 → ⊥) → 2 < e.action → false ≡ listed_entry e
-unfolding listed_entry
-unlisted_action e z a = rw (ne_eqb e.action 74 z, action_unknown e.action a)
-
-pub unlisted_side : (e : Entry) → (e.action ≡ 74 → ⊥) → e.action ≤ 2 → 1 < e.side → false ≡ listed_entry e
-unfolding listed_entry
-unlisted_side e z a b = rw (ne_eqb e.action 74 z, action_known e.action a, side_unknown e.side b)
-
-pub unlisted_zero : (e : Entry) → (e.action ≡ 74 → ⊥) → e.action ≤ 2 → e.side ≤ 1 → e.level < 1 → false ≡ listed_entry e
-unfolding listed_entry listed_rank
-unlisted_zero e z a b c = rw (ne_eqb e.action 74 z, action_known e.action a, side_known e.side b, lt-leb 1 e.level c)
-
-pub listed_rest : (e : Entry) → (e.action ≡ 74 → ⊥) → e.action ≤ 2 → e.side ≤ 1 → 1 ≤ e.level → leb e.level depth ≡ listed_entry e
-unfolding listed_entry listed_rank
-listed_rest e z a b c = rw (ne_eqb e.action 74 z, action_known e.action a, side_known e.side b, le-leb 1 e.level c)
+-- the entries in 24-byte steps, each listed
+pub each_listed : (a n : ℕ) (s : List ℕ) → list_all (λ i. listed_entry (entry_at (entry_size * i) s)) (range_with_len a n) ≡ all listed_entry (entries_from n (entry_size * a) s)
+unfolding all entries_from
+each_listed a zero s = refl
+each_listed a (suc n) s =
+    let t : entry_size * (a + 1) ≡ entry_size * a + entry_size = omega arith in
+    ap (λ (b : Bool). listed_entry (entry_at (entry_size * a) s) && b) (each_listed (a + 1) n s ∙ ap (λ (at : ℕ). all listed_entry (entries_from n at s)) t)
 
 -- the entries from the i-th on
 pub rest : ℕ → ℕ → List ℕ → List Entry
@@ -101,33 +69,6 @@ unfolding rest
 rest_all n s =
     let e : n - 0 ≡ n = omega arith in
     ap (λ (k : ℕ). entries_from k 0 s) e
-
--- all entries before the i-th are listed
-pub record Listing (n : ℕ) (s : List ℕ) (i : ℕ) : Type 0 where
-  pub upto : i ≤ n
-  pub room : entry_size * n ≤ length s
-  pub same : all listed_entry (rest n i s) ≡ all listed_entry (entries_from n 0 s)
-
-pub list_starts : (n : ℕ) (s : List ℕ) → entry_size * n ≤ length s → Listing n s 0
-list_starts n s h = record { upto = omega arith; room = h; same = ap (all listed_entry) (rest_all n s) }
-
-pub list_goes : (n : ℕ) (s : List ℕ) (i : ℕ) (e : Entry) (b : Bool) → Listing n s i → i < n → e ≡ entry_at (entry_size * i) s → b ≡ listed_entry e → b ≡ true → Listing n s (i + 1)
-unfolding all
-list_goes n s i e b p h q t y =
-    let yes : listed_entry (entry_at (entry_size * i) s) ≡ true = ap listed_entry (sym q) ∙ sym t ∙ y in
-    record { upto = omega arith; room = p.room; same = sym (ap (all listed_entry) (rest_more n i s h) ∙ rw yes) ∙ p.same }
-
-pub list_stops : (n : ℕ) (s : List ℕ) (i : ℕ) (e : Entry) (b : Bool) → Listing n s i → i < n → e ≡ entry_at (entry_size * i) s → b ≡ listed_entry e → b ≡ false → false ≡ all listed_entry (entries_from n 0 s)
-unfolding all
-list_stops n s i e b p h q t y =
-    let no : listed_entry (entry_at (entry_size * i) s) ≡ false = ap listed_entry (sym q) ∙ sym t ∙ y in
-    sym (sym p.same ∙ ap (all listed_entry) (rest_more n i s h) ∙ rw no)
-
-pub list_ends : (n : ℕ) (s : List ℕ) (i : ℕ) → Listing n s i → n ≤ i → true ≡ all listed_entry (entries_from n 0 s)
-unfolding all
-list_ends n s i p h = sym (ap (all listed_entry) (rest_none n i s h)) ∙ p.same
-
-pub ruleset listing = (rules, entry_made, entry_read, listed_clear, unlisted_action, unlisted_side, unlisted_zero, listed_rest, list_starts, list_goes, list_stops, list_ends)
 
 -- at most ten rows stay at most ten
 pub after_few : (e : Entry) (s : List Row) → length s ≤ depth → length (rows_after e s) ≤ depth
@@ -219,41 +160,36 @@ side_padded rows counts zero p h = p.bids
 side_padded rows counts (suc zero) p h = p.offers
 side_padded rows counts (suc (suc k)) p h = absurd (omega arith)
 
--- what is left of the walk from the i-th entry on comes to what all of it does, and the words stay until then; the rows dropped so far and those that
--- the rest drops are all that are
-pub record Walking (time : ℕ) (s : List ℕ) (n : ℕ) (w₀ : List ℕ) (rows₀ : List (List Row)) (counts₀ w : List ℕ) (rows : List (List Row)) (counts : List ℕ) (d i : ℕ) : Type 0 where
+-- what is left of the walk from the i-th entry on comes to what all of it does; the rows dropped so far and those that the rest drops are all that are
+pub record Walking (time : ℕ) (s : List ℕ) (n : ℕ) (rows₀ : List (List Row)) (counts₀ : List ℕ) (rows : List (List Row)) (counts : List ℕ) (d i : ℕ) : Type 0 where
   pub upto : i ≤ n
   pub room : entry_size * n ≤ length s
-  pub long : length w ≡ book_width
-  pub stays : w ≡ w₀
   pub two : (length rows ≡ 2) × (length counts ≡ 2)
   pub sides : Sides rows counts
   pub same : walk time (rest n i s) (as_book rows counts) ≡ walk time (entries_from n 0 s) (as_book rows₀ counts₀)
   pub few : d ≤ i
   pub tally : d + dropped time (rest n i s) (as_book rows counts) ≡ dropped time (entries_from n 0 s) (as_book rows₀ counts₀)
 
-pub walk_starts : (time : ℕ) (s : List ℕ) (n : ℕ) (w : List ℕ) (rows : List (List Row)) (counts : List ℕ) → (length w ≡ book_width) × Sides rows counts × (entry_size * n ≤ length s)
-    → length rows ≡ 2 → length counts ≡ 2 → Walking time s n w rows counts w rows counts 0 0
-walk_starts time s n w rows counts p r c = record {
+pub walk_starts : (time : ℕ) (s : List ℕ) (n : ℕ) (rows : List (List Row)) (counts : List ℕ) → Sides rows counts × (entry_size * n ≤ length s)
+    → length rows ≡ 2 → length counts ≡ 2 → Walking time s n rows counts rows counts 0 0
+walk_starts time s n rows counts p r c = record {
   upto = omega arith;
-  room = p.2;
-  long = p.0;
-  stays = refl;
+  room = p.1;
   two = (r, c);
-  sides = p.1;
+  sides = p.0;
   same = ap (λ (es : List Entry). walk time es (as_book rows counts)) (rest_all n s);
   few = omega arith;
   tally = omega (arith, ap (λ (es : List Entry). dropped time es (as_book rows counts)) (rest_all n s));
 }
 
-module _ (time : ℕ) (s : List ℕ) (n c : ℕ) (w₀ : List ℕ) (rows₀ : List (List Row)) (counts₀ w : List ℕ) (rows : List (List Row)) (counts : List ℕ) (d i : ℕ)
-    (p : Walking time s n w₀ rows₀ counts₀ w rows counts d i) (h : n ≤ i) where
+module _ (time : ℕ) (s : List ℕ) (n c : ℕ) (rows₀ : List (List Row)) (counts₀ : List ℕ) (rows : List (List Row)) (counts : List ℕ) (d i : ℕ)
+    (p : Walking time s n rows₀ counts₀ rows counts d i) (h : n ≤ i) where
   ended : walk time (entries_from n 0 s) (as_book rows₀ counts₀) ≡ some (as_book rows counts)
   unfolding walk
   ended = sym p.same ∙ ap (λ (es : List Entry). walk time es (as_book rows counts)) (rest_none n i s h)
 
-  pub walk_ends : (u : List ℕ) → u ≡ words_of c (as_book rows counts) → landed 0 u ≡ settled c (walk time (entries_from n 0 s) (as_book rows₀ counts₀)) w₀
-  walk_ends u e = rw (ended, e)
+  pub walk_ends : (w₀ u : List ℕ) → u ≡ words_of c (as_book rows counts) → landed 0 u ≡ settled c (walk time (entries_from n 0 s) (as_book rows₀ counts₀)) w₀
+  walk_ends w₀ u e = rw (ended, e)
 
   pub ends_count : d ≡ dropped_by time (entries_from n 0 s) (as_book rows₀ counts₀)
   unfolding dropped misfit
@@ -268,8 +204,8 @@ pub fits_told : (rows : List (List Row)) (counts : List ℕ) (e : Entry) (way : 
 fits_told rows counts e way t f up p k a b y u q r =
     fits_is (way_of e.side) (side_at e.side rows counts) e (side_padded rows counts e.side p k) a b ∙ rw (← u, ← y) (sym q ∙ r)
 
-module _ (time : ℕ) (s : List ℕ) (n : ℕ) (w₀ : List ℕ) (rows₀ : List (List Row)) (counts₀ w : List ℕ) (rows : List (List Row)) (counts : List ℕ) (d i : ℕ)
-    (p : Walking time s n w₀ rows₀ counts₀ w rows counts d i) (h : i < n) (e : Entry) (q : e ≡ entry_at (entry_size * i) s) where
+module _ (time : ℕ) (s : List ℕ) (n : ℕ) (rows₀ : List (List Row)) (counts₀ : List ℕ) (rows : List (List Row)) (counts : List ℕ) (d i : ℕ)
+    (p : Walking time s n rows₀ counts₀ rows counts d i) (h : i < n) (e : Entry) (q : e ≡ entry_at (entry_size * i) s) where
   one_more : bind (on_book time e (as_book rows counts)) (walk time (rest n (i + 1) s)) ≡ walk time (entries_from n 0 s) (as_book rows₀ counts₀)
   unfolding walk
   one_more = rw q (sym (ap (λ (es : List Entry). walk time es (as_book rows counts)) (rest_more n i s h)) ∙ p.same)
@@ -280,13 +216,11 @@ module _ (time : ℕ) (s : List ℕ) (n : ℕ) (w₀ : List ℕ) (rows₀ : List
   one_tally = rw q (sym (ap (λ (es : List Entry). d + dropped time es (as_book rows counts)) (rest_more n i s h)) ∙ p.tally)
 
   goes : (rows' : List (List Row)) (counts' : List ℕ) (b : Bool) → (length rows' ≡ 2) × (length counts' ≡ 2) → Sides rows' counts' → on_book time e (as_book rows counts) ≡ some (as_book rows' counts')
-      → b ≡ was_dropped (fell_off e (as_book rows counts)) → Walking time s n w₀ rows₀ counts₀ w rows' counts' (d + cond b 1 0) (i + 1)
+      → b ≡ was_dropped (fell_off e (as_book rows counts)) → Walking time s n rows₀ counts₀ rows' counts' (d + cond b 1 0) (i + 1)
   unfolding bind or_as_it_was
   goes rows' counts' b two sides f g = record {
     upto = omega arith;
     room = p.room;
-    long = p.long;
-    stays = p.stays;
     two = two;
     sides = sides;
     same = rw f at one_more;
@@ -305,29 +239,33 @@ module _ (time : ℕ) (s : List ℕ) (n : ℕ) (w₀ : List ℕ) (rows₀ : List
   unfolding bind
   ends f = sym (rw f at one_more)
 
-  pub stops : (c : ℕ) (r : Walked) → r ≡ refused → on_book time e (as_book rows counts) ≡ none → landed r.answer w ≡ settled c (walk time (entries_from n 0 s) (as_book rows₀ counts₀)) w₀
-  stops c r y f = ap (λ (x : Walked). landed x.answer w) y ∙ ap (landed 16) p.stays ∙ ap (λ (o : Option Book). settled c o w₀) (sym (ends f))
-
-  pub stops_count : (r : Walked) → r ≡ refused → on_book time e (as_book rows counts) ≡ none → r.dropped ≡ dropped_by time (entries_from n 0 s) (as_book rows₀ counts₀)
+  pub stops : (c : ℕ) (w : List ℕ) → on_book time e (as_book rows counts) ≡ none
+      → (landed 16 w ≡ settled c (walk time (entries_from n 0 s) (as_book rows₀ counts₀)) w) × (0 ≡ dropped_by time (entries_from n 0 s) (as_book rows₀ counts₀))
   unfolding misfit
-  stops_count r y f = ap (λ (x : Walked). x.dropped) y ∙ sym (ap (λ (o : Option Book). cond (misfit o) 0 (dropped time (entries_from n 0 s) (as_book rows₀ counts₀))) (ends f))
+  stops c w f = (
+    ap (λ (o : Option Book). settled c o w) (sym (ends f)),
+    sym (ap (λ (o : Option Book). cond (misfit o) 0 (dropped time (entries_from n 0 s) (as_book rows₀ counts₀))) (ends f)),
+  )
 
-  pub walk_clear : (rows' : List (List Row)) → e.action ≡ 74 → rows' ≡ empty_rows → Walking time s n w₀ rows₀ counts₀ w rows' empty_counts d (i + 1)
+  pub walk_clear : (rows' : List (List Row)) (counts' : List ℕ) → e.action ≡ 74 → rows' ≡ empty_rows → counts' ≡ empty_counts → Walking time s n rows₀ counts₀ rows' counts' d (i + 1)
   unfolding was_dropped
-  walk_clear rows' a r =
+  walk_clear rows' counts' a r c =
       let none : d + 0 ≡ d = omega arith in
-      subst (λ (k : ℕ). Walking time s n w₀ rows₀ counts₀ w rows' empty_counts k (i + 1)) none
-      (rw r (goes empty_rows empty_counts false (refl, refl) empty_sides (on_clear time e (as_book rows counts) a) (sym (ap was_dropped (fell_clear e (as_book rows counts) a)))))
+      subst (λ (k : ℕ). Walking time s n rows₀ counts₀ rows' counts' k (i + 1)) none
+      (rw (r, c) (goes empty_rows empty_counts false (refl, refl) empty_sides (on_clear time e (as_book rows counts) a) (sym (ap was_dropped (fell_clear e (as_book rows counts) a)))))
 
-  pub walk_side : (a : Applied) (k : ℕ) → (e.action ≡ 74 → ⊥) → e.side ≤ 1 → fits (way_of e.side) e (live (side_at e.side rows counts)) ≡ true
-      → a ≡ applied_to e (live (side_at e.side rows counts)) → k ≡ cond a.dropped 1 0
-      → Walking time s n w₀ rows₀ counts₀ w (set rows e.side a.rows) (set counts e.side a.count) (d + k) (i + 1)
+  pub walk_side : (a : told.Applied) (k : ℕ) → (e.action ≡ 74 → ⊥) → e.side ≤ 1 → fits (way_of e.side) e (live (side_at e.side rows counts)) ≡ true
+      → applied_by a ≡ applied_to e (live (side_at e.side rows counts)) → k ≡ cond (is_some a.last) 1 0
+      → Walking time s n rows₀ counts₀ (set rows e.side a.rows) (set counts e.side a.count) (d + k) (i + 1)
   walk_side a k z u f ea ek =
       let side : Side = side_at e.side rows counts in
       let l : List Row = rows_after e (live side) in
       let pad = side_padded rows counts e.side p.sides u in
       let few = after_few e (live side) (omega (arith, live_n side pad, pad.few)) in
-      rw (ek, ea)
+      let er : a.rows ≡ take depth (l ++ no_rows) = ap (λ (x : Applied). x.rows) ea in
+      let ec : a.count ≡ length l = ap (λ (x : Applied). x.count) ea in
+      let ed : is_some a.last ≡ was_dropped (fell_from e (live side)) = ap (λ (x : Applied). x.dropped) ea in
+      rw (ek, er, ec, ed)
       (goes (set rows e.side (take depth (l ++ no_rows))) (set counts e.side (length l)) (was_dropped (fell_from e (live side)))
       (length-set rows e.side (take depth (l ++ no_rows)) ∙ p.two.0, length-set counts e.side (length l) ∙ p.two.1)
       (set_sides rows counts p.two e.side (take depth (l ++ no_rows)) (length l) u p.sides (padded_of l few))
@@ -346,18 +284,13 @@ module _ (time : ℕ) (s : List ℕ) (n : ℕ) (w₀ : List ℕ) (rows₀ : List
   pub count_few : e.side ≤ 1 → get_or counts e.side 0 ≤ depth
   count_few u = (side_padded rows counts e.side p.sides u).few
 
-  pub none_zero : (e.action ≡ 74 → ⊥) → e.level < 1 → on_book time e (as_book rows counts) ≡ none
-  unfolding listed_rank
-  none_zero a l = no_rank time e (as_book rows counts) a (rw (lt-leb 1 e.level l))
-
-  pub none_eleven : (e.action ≡ 74 → ⊥) → 1 ≤ e.level → depth < e.level → on_book time e (as_book rows counts) ≡ none
-  unfolding listed_rank
-  none_eleven a l u = no_rank time e (as_book rows counts) a (rw (le-leb 1 e.level l, lt-leb e.level depth u))
+  pub none_rank : (e.action ≡ 74 → ⊥) → listed_rank e.level ≡ false → on_book time e (as_book rows counts) ≡ none
+  none_rank a r = no_rank time e (as_book rows counts) a r
 
   pub none_fits : (e.action ≡ 74 → ⊥) → e.side ≤ 1 → fits (way_of e.side) e (live (side_at e.side rows counts)) ≡ false → on_book time e (as_book rows counts) ≡ none
   none_fits a u f = not_side rows counts p.two time e e.side a refl u f
 
-pub ruleset walking = (rules, walk_starts, walk_ends, ends_count, walk_clear, count_few, stops, stops_count, none_zero, none_eleven, no_side, none_fits, fits_told)
+pub ruleset walking = (rules, walk_starts, walk_ends, ends_count, walk_clear, count_few, stops)
 
 -- at most ten rows a side, of a book and of what may be a book
 abbrev pub Few : Book → Type 0

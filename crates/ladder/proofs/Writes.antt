@@ -14,6 +14,8 @@ use Rattle.ladder.specs.Sides.{no_row}
 use Rattle.ladder.specs.Walk.{Book}
 use Rattle.ladder.specs.Words.{row_width, side_width, book_width, bids_at, offers_at, row_words, pad, side_words, words_of}
 use Rattle.ladder.specs.Code.Arrays.{Side, live, side_at, as_book, Sides}
+use Rattle.ladder.specs.Code.Loading.{rows_at}
+use Rattle.ladder.specs.declared.Way.{Way}
 use Rattle.ladder.specs.declared.Row.{Row}
 use Rattle.ladder.proofs.Pads.{length_pad, live_n}
 use Rattle.ladder.specs.Message.{depth}
@@ -64,8 +66,9 @@ write_goes base rows t₀ t u i p h e = record {
       ∙ overlay_more row_words row_width (λ r. refl) rows i no_row base t₀ (omega (arith, p.ten)) (omega (arith, p.room));
 }
 
-pub write_ends : (base : ℕ) (rows : List Row) (t₀ t : List ℕ) (i : ℕ) → Writing base rows t₀ t i → depth ≤ i → t ≡ overlay base (flat (map row_words rows)) t₀
-write_ends base rows t₀ t i p h = p.so_far ∙ ap (λ (l : List Row). overlay base (flat (map row_words l)) t₀) (take_all i rows (omega (arith, p.ten)))
+pub write_ends : (way : Way) (base : ℕ) (rows : List Row) (t₀ t : List ℕ) (i : ℕ) → base ≡ rows_at way → Writing base rows t₀ t i → depth ≤ i → t ≡ overlay (rows_at way) (flat (map row_words rows)) t₀
+write_ends way base rows t₀ t i e p h =
+    p.so_far ∙ ap (λ (l : List Row). overlay base (flat (map row_words l)) t₀) (take_all i rows (omega (arith, p.ten))) ∙ ap (λ (b : ℕ). overlay b (flat (map row_words rows)) t₀) e
 
 -- the four words of the head, then the bids, then the offers, whatever stood there
 pub head_room_lem : (t : List ℕ) (c m n z : ℕ) → length t ≡ book_width → bids_at + side_width ≤ length (set (set (set (set t 0 c) 1 m) 2 n) 3 z)
@@ -77,23 +80,23 @@ side_room_lem t u c m n z h e = rw e (simp length-set (omega arith))
 pub book_long : (t u v : List ℕ) (c m n z : ℕ) → length u ≡ length (set (set (set (set t 0 c) 1 m) 2 n) 3 z) → length v ≡ length u → length v ≡ length t
 book_long t u v c m n z e f = f ∙ e ∙ simp length-set
 
-pub book_written : (t u v : List ℕ) (c : ℕ) (rows : List (List Row)) (counts : List ℕ) → (length t ≡ book_width) × Sides rows counts
+pub book_written : (t u v : List ℕ) (c : ℕ) (rows : List (List Row)) (counts : List ℕ) → length t ≡ book_width → Sides rows counts
     → u ≡ overlay bids_at (flat (map row_words (get_or rows 0 []))) (set (set (set (set t 0 c) 1 (get_or counts 0 0)) 2 (get_or counts 1 0)) 3 0) → v ≡ overlay offers_at (flat (map row_words (get_or rows 1 []))) u
     → v ≡ words_of c (as_book rows counts)
 unfolding words_of side_words
-book_written t u v c rows counts p e f =
+book_written t u v c rows counts n p e f =
     let bids : Side = side_at 0 rows counts in
     let offers : Side = side_at 1 rows counts in
     let b : List ℕ = side_words (live bids) in
     let o : List ℕ = side_words (live offers) in
-    let eb : flat (map row_words bids.rows) ≡ b = ap (λ (l : List Row). flat (map row_words l)) p.1.bids.zeros in
-    let eo : flat (map row_words offers.rows) ≡ o = ap (λ (l : List Row). flat (map row_words l)) p.1.offers.zeros in
+    let eb : flat (map row_words bids.rows) ≡ b = ap (λ (l : List Row). flat (map row_words l)) p.bids.zeros in
+    let eo : flat (map row_words offers.rows) ≡ o = ap (λ (l : List Row). flat (map row_words l)) p.offers.zeros in
     let head : List ℕ = c ∷ bids.n ∷ offers.n ∷ 0 ∷ [] in
     let nb : length b ≡ side_width = side_words_lem (live bids) in
     let no' : length o ≡ side_width = side_words_lem (live offers) in
-    f ∙ (λ i. overlay offers_at (eo i) u) ∙ ap (overlay offers_at o) (e ∙ (λ i. overlay bids_at (eb i) (set (set (set (set t 0 c) 1 bids.n) 2 offers.n) 3 0)) ∙ ap (overlay bids_at b) (sets_overlay t 0 head (omega (arith, p.0))) ∙ overlay_join 0 4 head b t refl (omega (arith, p.0)))
-    ∙ overlay_join 0 offers_at (head ++ b) o t (simp length-append (omega arith)) (omega (arith, p.0))
-    ∙ overlay_whole ((head ++ b) ++ o) t (simp length-append (omega (arith, p.0)))
-    ∙ (λ i. c ∷ sym (live_n bids p.1.bids) i ∷ sym (live_n offers p.1.offers) i ∷ 0 ∷ (b ++ o))
+    f ∙ (λ i. overlay offers_at (eo i) u) ∙ ap (overlay offers_at o) (e ∙ (λ i. overlay bids_at (eb i) (set (set (set (set t 0 c) 1 bids.n) 2 offers.n) 3 0)) ∙ ap (overlay bids_at b) (sets_overlay t 0 head (omega (arith, n))) ∙ overlay_join 0 4 head b t refl (omega (arith, n)))
+    ∙ overlay_join 0 offers_at (head ++ b) o t (simp length-append (omega arith)) (omega (arith, n))
+    ∙ overlay_whole ((head ++ b) ++ o) t (simp length-append (omega (arith, n)))
+    ∙ (λ i. c ∷ sym (live_n bids p.bids) i ∷ sym (live_n offers p.offers) i ∷ 0 ∷ (b ++ o))
 
 pub ruleset writes = (rules, row_second, row_third, row_written, write_starts, write_room, write_goes, write_ends, head_room_lem, side_room_lem, book_long, book_written)

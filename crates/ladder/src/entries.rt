@@ -1,6 +1,6 @@
 // The entries of a book message in its bytes, and whether they are listed (document 01, "One unit").
-ghost use Rattle.std.specs.Prelude.{◌≡◌, ◌+◌, ◌*◌, ◌≤◌, ◌<◌, length};
-ghost use Rattle.ladder.specs.Message.{entry_size, entry_of, entry_at, entries_from, listed_entry};
+ghost use Rattle.std.specs.Prelude.{◌≡◌, ◌+◌, ◌*◌, ◌≤◌, ◌<◌, true, length};
+ghost use Rattle.ladder.specs.Message.{depth, listed_rank, entry_size, entry_of, entry_at, entries_from, listed_entry};
 ghost use Rattle.wire.specs.Number.{word32};
 ghost use Rattle.ground.specs.Choice.{all};
 
@@ -38,23 +38,21 @@ pub(crate) fn entry_at(part: &[u8], at: usize) -> Entry
     entry_of(quantity, raw, orders, side, level, action)
 }
 
+// Whether a number is a rank.
+#[tactic(auto, unfolding(crate::specs::Message::listed_rank))]
+pub(crate) fn is_rank(level: usize) -> bool
+    ensures listed { result ≡ listed_rank level }
+    ensures within { result ≡ true → (1 ≤ level) × (level ≤ depth) }
+{
+    (1..=DEPTH).contains(&level)
+}
+
 // Whether an entry's side, level and action are listed; of a clear, only its action is looked at.
+#[tactic(auto, unfolding(crate::specs::Message::listed_entry, crate::specs::Message::listed_side, ground::specs::Choice::one_of))]
 fn is_listed(e: Entry) -> bool
     ensures { result ≡ listed_entry e }
 {
-    if e.action == CLEAR {
-        return true;
-    }
-    if DELETE < e.action {
-        return false;
-    }
-    if OFFER < e.side {
-        return false;
-    }
-    if e.level < 1 {
-        return false;
-    }
-    e.level <= DEPTH
+    e.action == CLEAR || (e.action <= DELETE && e.side <= OFFER && is_rank(e.level))
 }
 
 // Whether all of n entries are listed.
@@ -62,14 +60,5 @@ pub fn all_listed(part: &[u8], n: usize) -> bool
     requires { entry_size * n ≤ length part.now }
     ensures { result ≡ all listed_entry (entries_from n 0 part.now) }
 {
-    let mut i = 0;
-    while i < n {
-        let e = entry_at(part, ENTRY_BYTES * i);
-        if is_listed(e) {
-            i += 1;
-        } else {
-            return false;
-        }
-    }
-    true
+    (0..n).all(|i| is_listed(entry_at(part, ENTRY_BYTES * i)))
 }

@@ -1,15 +1,22 @@
 // One book: rows, two sides, the entries of a book message (document 01, "One unit", "The book table", "Entries, against a side of n rows").
 #![tactic(auto)]
 
+ghost use Rattle.std.specs.Prelude.{◌≡◌, ◌+◌, ◌≤◌, ◌<◌, MatchResult};
+ghost use Rattle.ground.specs.declared.Refusal.TheVariants.{Unlisted};
+ghost use Rattle.ladder.specs.Words.{side_width, book_width};
+ghost use Rattle.ladder.specs.Code.Arrays.{way_of};
+ghost use Rattle.ladder.specs.Code.Loading.{count_at, rows_at};
+
+use ground::Refusal;
+
 mod entries;
 mod sides;
 mod walking;
 mod words;
 
 pub use entries::all_listed;
-pub use sides::no_rows;
 pub use walking::walk;
-pub use words::{empty, is_sound, load_rows, row_at};
+pub use words::{empty, is_sound, row_at};
 
 // A side has at most ten rows.
 pub const DEPTH: usize = 10;
@@ -59,6 +66,43 @@ pub enum Way {
     Offer,
 }
 
+impl Way {
+    // Where a side's count stands in a book's words.
+    pub fn count_at(self) -> usize
+        ensures { (result ≡ count_at self) × (result < book_width) }
+    {
+        match self {
+            Way::Bid => BID_COUNT_AT,
+            Way::Offer => OFFER_COUNT_AT,
+        }
+    }
+
+    // Where its ten rows begin.
+    pub fn rows_at(self) -> usize
+        ensures { (result ≡ rows_at self) × (result + side_width ≤ book_width) }
+    {
+        match self {
+            Way::Bid => BIDS_AT,
+            Way::Offer => OFFERS_AT,
+        }
+    }
+}
+
+// The side of a number as sent: 0 the bids, 1 the offers.
+impl TryFrom<u64> for Way {
+    type Error = Refusal;
+
+    ghost try_from_gives = { λ side r. MatchResult r (λ way. (side ≤ 1) × (way ≡ way_of side)) (λ e. (1 < side) × (e ≡ Unlisted)) };
+
+    fn try_from(side: u64) -> Result<Way, Refusal> {
+        match side {
+            BID => Ok(Way::Bid),
+            OFFER => Ok(Way::Offer),
+            _ => Err(Refusal::Unlisted),
+        }
+    }
+}
+
 // A row of a side. The price is the price word: the price sent, plus 2,147,483,648.
 #[derive(Clone, Copy)]
 pub struct Row {
@@ -67,7 +111,21 @@ pub struct Row {
     pub orders: u64,
 }
 
-// An entry of a book message, its numbers as sent but for the price, which is the row's price word.
+// The row that stands beyond the count.
+pub const NO_ROW: Row = Row {
+    price: 0,
+    quantity: 0,
+    orders: 0,
+};
+
+// Both sides of a book, the bids first: ten rows each, and how many of them are used.
+#[derive(Clone, Copy)]
+pub struct BookSides {
+    pub rows: [[Row; DEPTH]; 2],
+    pub counts: [usize; 2],
+}
+
+// An entry of a book message, its numbers as sent, unlisted ones too, but for the price, which is the row's price word.
 #[derive(Clone, Copy)]
 pub struct Entry {
     pub row: Row,
@@ -76,18 +134,10 @@ pub struct Entry {
     pub action: u64,
 }
 
-// What an entry makes of a side: its ten rows and its count, whether a row was dropped, and the row, zero where none was.
+// What an entry makes of a side: its ten rows and its count, and the row that it drops.
 #[derive(Clone, Copy)]
 pub struct Applied {
     pub rows: [Row; DEPTH],
     pub count: usize,
-    pub dropped: bool,
-    pub last: Row,
-}
-
-// What a walk over the entries of a message says: its answer, and how many rows they dropped.
-#[derive(Clone, Copy)]
-pub struct Walked {
-    pub answer: u64,
-    pub dropped: u64,
+    pub last: Option<Row>,
 }

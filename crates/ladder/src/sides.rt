@@ -2,31 +2,24 @@
 ghost use Rattle.std.specs.Prelude.{◌≡◌, [], ◌∷◌, ◌++◌, ◌+◌, ◌≤◌, ◌<◌, min, take, set, true, cond, ◌||◌, leb, ltb, eqb};
 ghost use Rattle.ladder.specs.Message.{depth, new};
 ghost use Rattle.ladder.specs.Sides.{better, no_row, new_rows, delete_rows, fits};
-ghost use Rattle.ladder.specs.Code.Arrays.{Padded, way_of, fits_at, ten_after, count_after, drops_tenth, applied_to, empty_rows};
+ghost use Rattle.ladder.specs.Code.Arrays.{Padded, way_of, fits_at, ten_after, count_after, drops_tenth, applied_by, applied_to, empty_rows, empty_counts};
 
-use super::{Applied, CHANGE, DELETE, DEPTH, Entry, NEW, Row, Way};
+use super::{Applied, BookSides, CHANGE, DELETE, DEPTH, Entry, NEW, NO_ROW, Row, Way};
 
 // The last place of ten.
 pub(crate) const LAST: usize = DEPTH - 1;
 
-// The row that stands beyond the count.
-pub(crate) fn zero_row() -> Row
-    ensures { result ≡ no_row }
-{
-    Row {
-        price: 0,
-        quantity: 0,
-        orders: 0,
+impl BookSides {
+    // An empty book's.
+    #[tactic(auto, unfolding(crate::specs::Words::no_rows))]
+    pub fn empty() -> BookSides
+        ensures { (result.rows ≡ empty_rows) × (result.counts ≡ empty_counts) }
+    {
+        BookSides {
+            rows: [[NO_ROW; DEPTH]; 2],
+            counts: [0; 2],
+        }
     }
-}
-
-// The ten rows of each side of an empty book.
-pub fn no_rows() -> [[Row; DEPTH]; 2]
-    ensures { result ≡ empty_rows }
-{
-    let none = zero_row();
-    let rows = [none; DEPTH];
-    [rows; 2]
 }
 
 // One word of two: a where c holds, else b.
@@ -52,31 +45,17 @@ fn insert_row(rows: [Row; DEPTH], at: usize, row: Row) -> [Row; DEPTH]
     requires { at < depth }
     ensures { result ≡ new_rows (at + 1) row rows }
 {
-    let mut next = rows;
-    let mut above = zero_row();
-    let mut i = 0;
-    while i < DEPTH {
-        let here = rows[i];
-        let stays = row_if(i == at, row, here);
-        next[i] = row_if(at < i, above, stays);
-        above = here;
-        i += 1;
-    }
-    next
+    std::array::from_fn(|i| {
+        let stays = row_if(i == at, row, rows[i]);
+        row_if(at < i, rows[i.saturating_sub(1)], stays)
+    })
 }
 
 // A row replaced by another.
 fn set_row(rows: [Row; DEPTH], at: usize, row: Row) -> [Row; DEPTH]
     ensures { result ≡ set rows at row }
 {
-    let mut next = rows;
-    let mut i = 0;
-    while i < DEPTH {
-        let here = rows[i];
-        next[i] = row_if(i == at, row, here);
-        i += 1;
-    }
-    next
+    std::array::from_fn(|i| row_if(i == at, row, rows[i]))
 }
 
 // A row taken out: the lower rows move up, and behind them comes a zero row.
@@ -84,19 +63,14 @@ fn drop_row(rows: [Row; DEPTH], at: usize) -> [Row; DEPTH]
     requires { at < depth }
     ensures { result ≡ delete_rows (at + 1) rows ++ (no_row ∷ []) }
 {
-    let mut next = rows;
-    let mut i = 0;
-    while i < LAST {
-        let here = rows[i];
-        let below = rows[i + 1];
-        next[i] = row_if(at <= i, below, here);
-        i += 1;
-    }
-    next[LAST] = zero_row();
-    next
+    std::array::from_fn(|i| {
+        let below = if i < LAST { rows[i + 1] } else { NO_ROW };
+        row_if(at <= i, below, rows[i])
+    })
 }
 
 // The ten rows of a side after an entry that is new, a change, or else a delete: the one application, for either side.
+#[tactic(auto, unfolding(crate::specs::Code::Arrays::ten_after, ground::specs::Choice::pick))]
 fn rows_after(rows: [Row; DEPTH], e: Entry) -> [Row; DEPTH]
     requires { (1 ≤ e.level) × (e.level ≤ depth) }
     ensures { result ≡ ten_after e rows }
@@ -117,10 +91,11 @@ fn one_more(n: usize) -> usize
     requires { n ≤ depth }
     ensures { result ≡ min depth (n + 1) }
 {
-    if n < DEPTH { n + 1 } else { DEPTH }
+    DEPTH.min(n + 1)
 }
 
 // The count of a side of n rows after such an entry.
+#[tactic(auto, unfolding(crate::specs::Code::Arrays::count_after, ground::specs::Choice::pick))]
 fn count_after(n: usize, action: u64) -> usize
     requires { (n ≤ depth) × ((eqb action new || leb 1 n) ≡ true) }
     ensures { result ≡ count_after action n }
@@ -135,35 +110,28 @@ fn count_after(n: usize, action: u64) -> usize
 }
 
 // Whether such an entry drops the tenth row of a side of n rows.
+#[tactic(auto, unfolding(crate::specs::Code::Arrays::drops_tenth))]
 fn drops_tenth(n: usize, action: u64) -> bool
     ensures { result ≡ drops_tenth action n }
 {
-    if action == NEW {
-        return DEPTH <= n;
-    }
-    false
+    action == NEW && DEPTH <= n
 }
 
 // An entry applied to a side of n rows that it fits, and the row that it drops.
 pub(crate) fn apply(rows: [Row; DEPTH], n: usize, e: Entry) -> Applied
     requires { Padded (record { n = n; rows = rows }) × (fits (way_of e.side) e (take n rows) ≡ true) }
-    ensures { result ≡ applied_to e (take n rows) }
+    ensures { applied_by result ≡ applied_to e (take n rows) }
 {
-    let tenth = rows[LAST];
-    let none = zero_row();
-    let dropped = drops_tenth(n, e.action);
-    let last = row_if(dropped, tenth, none);
-    let count = count_after(n, e.action);
-    let rows = rows_after(rows, e);
+    let last = drops_tenth(n, e.action).then_some(rows[LAST]);
     Applied {
-        rows,
-        count,
-        dropped,
+        rows: rows_after(rows, e),
+        count: count_after(n, e.action),
         last,
     }
 }
 
 // Whether price a is strictly better than price b.
+#[tactic(auto, unfolding(crate::specs::Sides::better))]
 pub(crate) fn is_better(way: Way, a: u64, b: u64) -> bool
     ensures { result ≡ better way a b }
 {
@@ -177,37 +145,27 @@ pub(crate) fn is_better(way: Way, a: u64, b: u64) -> bool
 fn is_below(way: Way, p: usize, above: u64, price: u64) -> bool
     ensures { result ≡ (leb p 1 || better way above price) }
 {
-    if p <= 1 {
-        return true;
-    }
-    is_better(way, above, price)
+    p <= 1 || is_better(way, above, price)
 }
 
 // Whether a price is strictly better than that of the row that stands at rank p of n rows, where there is one.
 fn is_above(way: Way, n: usize, p: usize, old: u64, price: u64) -> bool
     ensures { result ≡ (ltb n p || better way price old) }
 {
-    if n < p {
-        return true;
-    }
-    is_better(way, price, old)
+    n < p || is_better(way, price, old)
 }
 
 // Whether a new row fits at rank p of n rows.
+#[tactic(auto, unfolding(crate::specs::Code::Arrays::fits_at, ground::specs::Choice::pick))]
 fn new_fits(way: Way, n: usize, p: usize, above: u64, old: u64, price: u64) -> bool
     requires { n ≤ depth }
     ensures { result ≡ fits_at way new n p above old price }
 {
-    if n + 1 < p {
-        return false;
-    }
-    if is_below(way, p, above, price) {
-        return is_above(way, n, p, old, price);
-    }
-    false
+    p <= n + 1 && is_below(way, p, above, price) && is_above(way, n, p, old, price)
 }
 
 // Whether an entry fits at rank p of n rows, by the prices of the row above and of the row that stands there.
+#[tactic(auto, unfolding(crate::specs::Code::Arrays::fits_at, ground::specs::Choice::pick))]
 pub(crate) fn fits_at(
     way: Way,
     action: u64,

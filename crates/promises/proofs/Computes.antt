@@ -135,7 +135,7 @@ unfolding books_Table.unsound books_Table.no_slot books_Table.misfits books_Tabl
 books_table = 0
 
 unfoldable strips_code_shapes : ℕ
-unfolding strips_Code_Shapes.shape_of strips_Code_Shapes.field_of strips_Code_Shapes.fields_from strips_Code_Shapes.width_of strips_Code_Shapes.strip_of_block
+unfolding strips_Code_Shapes.shape_of strips_Code_Shapes.field_of strips_Code_Shapes.fields_from strips_Code_Shapes.width_of
 strips_code_shapes = 0
 
 unfoldable strips_forms : ℕ

@@ -18,6 +18,7 @@ use Rattle.feed.proofs.Feed.why.Reads as why
 use Rattle.books.proofs.read_row.Reads as read-row
 use Rattle.books.proofs.read_side.Reads as read-side
 use Rattle.strips.proofs.read_strip.Reads as read-strip
+use Rattle.strips.proofs.Told.{strip_read_one}
 use Rattle.password.proofs.check.Reads as check
 use Rattle.password.proofs.asked.Reads as asked
 
@@ -111,7 +112,7 @@ pub read_side_one : (κs : _) (a : _) (r r' : _) (x x' : _) → read-side.Learnt
 read_side_one κs a r r' x x' p q = p ∙ sym q
 
 pub read_strip_one : (κs : _) (a : _) (r r' : _) (x x' : _) → read-strip.Learnt κs a r x → read-strip.Learnt κs a r' x' → r ≡ r'
-read_strip_one κs a r r' x x' p q = p ∙ sym q
+read_strip_one κs a r r' x x' p q = strip_read_one r r' (p ∙ sym q)
 
 pub check_one : (κs : _) (a : _) (r r' : _) (x x' : _) → check.Learnt κs a r x → check.Learnt κs a r' x' → r ≡ r'
 check_one κs a r r' x x' p q = p ∙ sym q

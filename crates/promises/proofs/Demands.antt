@@ -24,14 +24,14 @@ use Rattle.ladder.proofs.Orders.{price_once}
 use Rattle.ladder.specs.Walk.{Book, empty_book, book_after}
 use Rattle.ladder.specs.declared.Way.TheVariants.{Bid, Offer}
 use Rattle.books.specs.Reading.{read_answer, read_row}
-use Rattle.books.specs.declared.RowRead.{RowRead}
+use Rattle.books.specs.Reading.{RowRead}
 use Rattle.strips.specs.Table as strip
 use Rattle.strips.specs.Table.{strips, strips_after}
 use Rattle.strips.specs.Words.{empty_strip}
 use Rattle.strips.specs.Reading as reading
 use Rattle.strips.specs.Reading.{read_strip}
 use Rattle.strips.specs.declared.Strip.{Strip as StripOf}
-use Rattle.strips.specs.declared.StripRead.{StripRead}
+use Rattle.strips.specs.Reading.{StripRead}
 use Rattle.strips.proofs.Lawful.{lawful}
 use Rattle.strips.proofs.Keeps.{step_fits, step_modest}
 use Rattle.feed.specs.Messages.{kind, on_market, tabled, listed as listed_of}

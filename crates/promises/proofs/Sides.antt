@@ -10,8 +10,8 @@ use Rattle.books.specs.Reading.{row_refused, read_row, level_of, side_answer, re
 use Rattle.ladder.specs.Message.{depth}
 use Rattle.books.specs.Code.Rows.{row_of_side}
 use Rattle.books.specs.declared.Level.{Level}
-use Rattle.books.specs.declared.RowRead.{RowRead}
-use Rattle.books.specs.declared.SideRead.{SideRead}
+use Rattle.books.specs.Reading.{RowRead}
+use Rattle.books.specs.Reading.{SideRead}
 use Rattle.books.proofs.Showing.{side_asked}
 use Rattle.books.proofs.Sides.{OutOf, out_of, alike, level_is}
 use Rattle.promises.specs.Sides as S

@@ -5,8 +5,8 @@ use Rattle.std.specs.Bool.{beq}
 use Rattle.ground.specs.Choice.{same}
 use Rattle.books.specs.Reading.{read_row, read_side}
 use Rattle.books.specs.declared.Level.{Level}
-use Rattle.books.specs.declared.RowRead.{RowRead}
-use Rattle.books.specs.declared.SideRead.{SideRead}
+use Rattle.books.specs.Reading.{RowRead}
+use Rattle.books.specs.Reading.{SideRead}
 use Rattle.feed.specs.Feeds.{phase_no, badge_no, badge_of}
 use Rattle.feed.specs.Events.{State, Event}
 use Rattle.feed.specs.Steps.{Outcome, outcome}

@@ -4,8 +4,8 @@ use Rattle.ladder.specs.Message.{depth}
 use Rattle.books.specs.Reading.{row_refused}
 use Rattle.books.specs.Promised.{RowSays, SideSays}
 use Rattle.books.specs.declared.Level.{Level}
-use Rattle.books.specs.declared.RowRead.{RowRead}
-use Rattle.books.specs.declared.SideRead.{SideRead}
+use Rattle.books.specs.Reading.{RowRead}
+use Rattle.books.specs.Reading.{SideRead}
 
 -- the row of a side at a rank, as a single read hands it back
 abbrev pub no_level : Level

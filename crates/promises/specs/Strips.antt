@@ -4,7 +4,7 @@ use Prim.Native.String.{String}
 use Rattle.slots.specs.Layout.{count_in}
 use Rattle.strips.specs.Table.{strips}
 use Rattle.strips.specs.Reading.{read_strip, strip_refused}
-use Rattle.strips.specs.declared.StripRead.{StripRead}
+use Rattle.strips.specs.Reading.{StripRead}
 use Rattle.feed.specs.Events.{Connect, Cut}
 use Rattle.feed.specs.Program.{program_run}
 use Rattle.feed.specs.declared.Phase.{Phase}

@@ -20,14 +20,12 @@ use Rattle.lines.specs.Scraps.{hearing, hears, links}
 use Rattle.lines.specs.declared.Line.{Line}
 use Rattle.lines.specs.declared.Linked.{Linked}
 use Rattle.lines.specs.declared.Heard.{Heard}
-use Rattle.screen.specs.Plain.{yes, bit, link_of, feed_of, plain_feed, plain_given, plain_out, plain_outcome, plain_frame, plain_framed_of, plain_framed, line_of, plain_line, plain_heard, plain_hearing, plain_hears, plain_row, plain_side, plain_strip}
+use Rattle.screen.specs.Plain.{yes, bit, link_of, feed_of, plain_feed, plain_given, plain_out, plain_outcome, plain_frame, plain_framed_of, plain_framed, line_of, plain_line, plain_heard, plain_hearing, plain_hears, plain_row, plain_side}
 use Rattle.screen.specs.Calls.{hands_back, frames_back, Connects, links_back, linked_back, hears_back}
-use Rattle.books.specs.declared.RowRead.{RowRead}
-use Rattle.books.specs.declared.SideRead.{SideRead}
-use Rattle.strips.specs.declared.StripRead.{StripRead}
+use Rattle.books.specs.Reading.{RowRead}
+use Rattle.books.specs.Reading.{SideRead}
 use Rattle.screen.specs.declared.MmdhRow.{MmdhRow}
 use Rattle.screen.specs.declared.MmdhSide.{MmdhSide}
-use Rattle.screen.specs.declared.MmdhStrip.{MmdhStrip}
 use Rattle.screen.specs.declared.MmdhFeed.{MmdhFeed}
 use Rattle.screen.specs.declared.MmdhGiven.{MmdhGiven}
 use Rattle.screen.specs.declared.MmdhFrame.{MmdhFrame}
@@ -140,28 +138,4 @@ module _ (c : MmdhLine) (x : Tables) (hold scrap : List ℕ) (allowed time : ℕ
     unfolding hears_back first
     scrap_plain l y left g r h a q p = rw (ne_eqb allowed 0 z, ← a, ← e, h, p) (ap plain_hears q)
 
-pub row_plain : (x r : RowRead) → r ≡ x → ◌≡◌ {A = MmdhRow} (record { answer = r.answer; price = r.price; quantity = r.quantity; orders = r.orders }) (plain_row x)
-row_plain x r e = ap plain_row e
-
-pub side_plain : (x r : SideRead) → r ≡ x → ◌≡◌ {A = MmdhSide} (record { answer = r.answer; count = r.count; row = r.rows }) (plain_side x)
-side_plain x r e = ap plain_side e
-
-pub strip_plain : (x r : StripRead) → r ≡ x
-    → ◌≡◌ {A = MmdhStrip}
-    (record {
-      answer = r.answer;
-      flags = r.flags;
-      nominal = r.nominal;
-      iep = r.iep;
-      iev = r.iev;
-      reference = r.reference;
-      lower = r.lower;
-      upper = r.upper;
-      direction = r.direction;
-      imbalance = r.imbalance;
-      closing = r.closing;
-    })
-    (plain_strip x)
-strip_plain x r e = ap plain_strip e
-
-pub ruleset cases = (rules, not_yes, is_yes, bit_one, bit_none, link_fresh, link_resuming, as_feed, as_plain, as_given, new_plain, connect_plain, arrive_plain, as_frame, frame_none, frame_plain, as_line, as_plain_line, as_heard, link_made, link_refused, scrap_none, scrap_dropped_lem, scrap_plain, row_plain, side_plain, strip_plain)
+pub ruleset cases = (rules, not_yes, is_yes, bit_one, bit_none, link_fresh, link_resuming, as_feed, as_plain, as_given, new_plain, connect_plain, arrive_plain, as_frame, frame_none, frame_plain, as_line, as_plain_line, as_heard, link_made, link_refused, scrap_none, scrap_dropped_lem, scrap_plain)

@@ -1,8 +1,8 @@
 -- Feeds, and what calls hand back, as the numbers of the C calls. Assumes nothing.
 use Rattle.std.specs.Prelude.{ℕ, Bool, cond, not, List, eqb}
-use Rattle.books.specs.declared.RowRead.{RowRead}
-use Rattle.books.specs.declared.SideRead.{SideRead}
-use Rattle.strips.specs.declared.StripRead.{StripRead}
+use Rattle.books.specs.Reading.{RowRead}
+use Rattle.books.specs.Reading.{SideRead}
+use Rattle.strips.specs.Reading.{StripRead}
 use Rattle.feed.specs.Feeds.{phase_no, phase_of}
 use Rattle.feed.specs.Events.{Tables}
 use Rattle.feed.specs.Steps.{Outcome}

@@ -4,9 +4,12 @@
 ghost use Rattle.std.specs.Prelude.{◌≡◌};
 ghost use Rattle.screen.specs.Promised.{NewSays, ConnectSays, ArriveSays, FrameSays, CutSays, LinkSays, ScrapSays, BadgeSays, WhySays, RowSays, SideSays, StripSays, PasswordSays, VersionSays};
 ghost use Rattle.feed.specs.Steps.{lent};
-ghost use Rattle.screen.specs.Plain.{yes, bit, link_of, feed_of, plain_feed, plain_given, plain_frame, line_of, plain_line, plain_heard};
+ghost use Rattle.screen.specs.Plain.{yes, bit, link_of, feed_of, plain_feed, plain_given, plain_frame, line_of, plain_line, plain_heard, plain_row, plain_side, plain_strip};
+ghost use Rattle.books.specs.Reading.{row_refused};
+ghost use Rattle.books.specs.Code.Rows.{side_refused};
+ghost use Rattle.strips.specs.Reading.{strip_refused};
 
-use books::{Level, RowRead};
+use books::Level;
 use feed::{Feed, Frame, Given, Link};
 use ladder::DEPTH;
 use lines::{Heard, Line};
@@ -370,16 +373,46 @@ pub fn mmdh_line_scrap(
     plain_heard(line_of(line).scrap(books, strips, hold, scrap, allowed, time))
 }
 
+// A row that is not given: the answer alone.
+fn no_row(answer: u64) -> MmdhRow
+    ensures { result ≡ plain_row (row_refused answer) }
+{
+    MmdhRow {
+        answer,
+        price: 0,
+        quantity: 0,
+        orders: 0,
+    }
+}
+
 // A row by code, side and rank.
 pub fn mmdh_read_row(table: &[u64], code: u64, side: u64, rank: u64) -> MmdhRow
     ensures { RowSays table.now code side rank result }
 {
-    let row = books::read_row(table, code, side, rank);
-    MmdhRow {
-        answer: row.answer,
-        price: row.price,
-        quantity: row.quantity,
-        orders: row.orders,
+    match books::read_row(table, code, side, rank) {
+        Ok(level) => MmdhRow {
+            answer: 0,
+            price: level.price,
+            quantity: level.quantity,
+            orders: level.orders,
+        },
+        Err(refusal) => no_row(u64::from(refusal)),
+    }
+}
+
+// A side that is not given: the answer alone.
+fn no_side(answer: u64) -> MmdhSide
+    ensures { result ≡ plain_side (side_refused answer) }
+{
+    let none = Level {
+        price: 0,
+        quantity: 0,
+        orders: 0,
+    };
+    MmdhSide {
+        answer,
+        count: 0,
+        row: [none; DEPTH],
     }
 }
 
@@ -387,12 +420,32 @@ pub fn mmdh_read_row(table: &[u64], code: u64, side: u64, rank: u64) -> MmdhRow
 pub fn mmdh_read_side(table: &[u64], code: u64, side: u64) -> MmdhSide
     ensures { SideSays table.now code side result }
 {
-    let read = books::read_side(table, code, side);
-    let row = read.rows;
-    MmdhSide {
-        answer: read.answer,
-        count: read.count,
-        row,
+    match books::read_side(table, code, side) {
+        Ok(read) => MmdhSide {
+            answer: 0,
+            count: read.count,
+            row: read.rows,
+        },
+        Err(refusal) => no_side(u64::from(refusal)),
+    }
+}
+
+// A strip that is not given: the answer alone.
+fn no_strip(answer: u64) -> MmdhStrip
+    ensures { result ≡ plain_strip (strip_refused answer) }
+{
+    MmdhStrip {
+        answer,
+        flags: 0,
+        nominal: 0,
+        iep: 0,
+        iev: 0,
+        reference: 0,
+        lower: 0,
+        upper: 0,
+        direction: 0,
+        imbalance: 0,
+        closing: 0,
     }
 }
 
@@ -400,19 +453,21 @@ pub fn mmdh_read_side(table: &[u64], code: u64, side: u64) -> MmdhSide
 pub fn mmdh_read_strip(strips: &[u64], code: u64) -> MmdhStrip
     ensures { StripSays strips.now code result }
 {
-    let strip = strips::read_strip(strips, code);
-    MmdhStrip {
-        answer: strip.answer,
-        flags: strip.flags,
-        nominal: strip.nominal,
-        iep: strip.iep,
-        iev: strip.iev,
-        reference: strip.reference,
-        lower: strip.lower,
-        upper: strip.upper,
-        direction: strip.direction,
-        imbalance: strip.imbalance,
-        closing: strip.closing,
+    match strips::read_strip(strips, code) {
+        Ok(shown) => MmdhStrip {
+            answer: 0,
+            flags: shown.flags,
+            nominal: shown.nominal,
+            iep: shown.iep,
+            iev: shown.iev,
+            reference: shown.reference,
+            lower: shown.lower,
+            upper: shown.upper,
+            direction: shown.direction,
+            imbalance: shown.imbalance,
+            closing: shown.closing,
+        },
+        Err(refusal) => no_strip(u64::from(refusal)),
     }
 }
 

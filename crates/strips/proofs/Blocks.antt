@@ -1,94 +1,37 @@
 -- What the code of src/words.rt comes to, return by return (specs/Words, specs/Code/Shapes). Assumes nothing.
 use Prim.Native.Nat.{ℕ, ◌+◌, ◌-◌, ◌*◌, ◌%◌, ◌^◌, ◌≤◌, ◌<◌}
-use native.Mathlib.Numerals.{add-one}
 use native.Mathlib.Omega.{arith}
 use mathlib.Core.Path.{◌≡◌, refl, sym, ap, ◌∙◌}
-use mathlib.Core.Bool.{Bool, true, false, ◌&&◌}
-use mathlib.Core.List.{List, ◌∷◌}
+use mathlib.Core.Bool.{Bool, true, false, true≢false}
+use mathlib.Core.List.{List}
 use lib.Bits.{bit_or}
-use lib.Dec.{eqb}
-use lib.ListN.{length, get_or, set, drop, length-set}
+use lib.Dec.{ltb}
+use lib.ListN.{get_or, set}
 use lib.Pow.{pow-lt}
-use lib.Seq.{drop-cons, lt-length-set}
 use borrow.Author.Tests.{lt-ltb, le-ltb, eq-eqb, ne_eqb}
-use Rattle.wire.specs.Number.{field}
-use Rattle.slots.proofs.Overlay.{sets_overlay, overlay_whole}
-use Rattle.strips.specs.Forms.{fields_of, sorts, brings}
-use Rattle.strips.specs.Words.{strip_width, value_count, words_from, strip_of, words_of, come, legal, sound_value, sound_from, sound_strip, sound, stored, stored_all, strip_after}
-use Rattle.strips.specs.Code.Shapes.{shape_of, field_of, fields_from, Spans}
-use Rattle.strips.specs.declared.Sort.{Sort}
-use Rattle.strips.specs.declared.Sort.TheVariants.{Price}
-use Rattle.strips.specs.declared.Field.{Field}
+use Rattle.std.specs.List.{list_all, range_with_len}
+use Rattle.std.specs.Prelude.{Option, Some, None, Ok, Err}
+use Rattle.ground.specs.declared.Refusal.TheVariants.{Unsound}
+use Rattle.wire.specs.Units.{msg_type}
+use Rattle.strips.specs.Forms.{Field, fields_of, sorts, brings}
+use Rattle.strips.specs.Words.{value_count, strip_of, sound_value, sound_from, sound_strip, sound, stored, stored_all, strip_after}
+use Rattle.strips.specs.Code.Shapes.{shape_if, field_of, fields_from, sound_strip_of, Spans, Sized}
 use Rattle.strips.specs.declared.Shape.{Shape}
 use Rattle.strips.specs.declared.Strip.{Strip}
-use Rattle.strips.proofs.Lists.{lists, same_fields, number_is, sort_is, span_rest, from_more}
+use Rattle.strips.proofs.Lists.{found, not_found, same_fields, number_is, from_more}
 
--- a strip written to its words, one by one
-module _ (t : List ℕ) (c f a b d e g h i j k : ℕ) where
-  abbrev twelve : List ℕ
-  twelve = set (set (set (set (set (set (set (set (set (set (set (set t 0 c) 1 f) 2 a) 3 b) 4 d) 5 e) 6 g) 7 h) 8 i) 9 j) 10 k) 11 0
+-- a strip is sound where its flags and its values are, one by one
+values_sound : (s : Strip) → list_all (λ (k : ℕ). sound_value (field_of k).sort k s) (range_with_len 0 value_count) ≡ sound_from 0 sorts s
+unfolding sound_from field_of fields_of
+values_sound s = refl
 
-  pub twelve_long : length twelve ≡ length t
-  twelve_long = simp length-set
-
-pub strip_written : (t : List ℕ) (c : ℕ) (s : Strip) → length t ≡ strip_width
-    → twelve t c s.flags (get_or s.values 0 0) (get_or s.values 1 0) (get_or s.values 2 0) (get_or s.values 3 0) (get_or s.values 4 0)
-    (get_or s.values 5 0) (get_or s.values 6 0) (get_or s.values 7 0) (get_or s.values 8 0) ≡ words_of c s
-unfolding words_of words_from
-strip_written t c s l = sets_overlay t 0 (words_of c s) (omega (arith, l)) ∙ overlay_whole (words_of c s) t (sym l)
-
--- what a value can be, by its kind
-pub legal_by : (q p : Sort) (v : ℕ) (b : Bool) → q ≡ p → b ≡ legal p v → b ≡ legal q v
-legal_by q p v b e h = rw e h
-
--- whether a value has come, and whether it is sound
-module _ (q : Sort) (k : ℕ) (s : Strip) (b : Bool) (e : b ≡ come k s) where
-  pub value_come : (r : Bool) → b ≡ true → r ≡ legal q (get_or s.values k 0) → r ≡ sound_value q k s
-  value_come r y h = h ∙ rw (sym e ∙ y)
-
-  pub value_none : b ≡ false → eqb (get_or s.values k 0) 0 ≡ sound_value q k s
-  value_none n = rw (sym e ∙ n)
-
--- one value after the other: those from the k-th on are sound where all are
-pub record Judging (s : Strip) (k : ℕ) : Type 0 where
-  pub upto : k ≤ value_count
-  pub few : s.flags ≤ 511
-  pub same : sound_from k (drop k sorts) s ≡ sound_from 0 sorts s
-
-pub judge_starts : (s : Strip) → s.flags ≤ 511 → Judging s 0
-judge_starts s h = record { upto = omega arith; few = h; same = refl }
-
-pub flags_high : (s : Strip) → 511 < s.flags → false ≡ sound_strip s
+pub flags_few : (s : Strip) (b : Bool) → s.flags < 512 → b ≡ list_all (λ (k : ℕ). sound_value (field_of k).sort k s) (range_with_len 0 value_count) → b ≡ sound_strip s
 unfolding sound_strip
-flags_high s h = rw (le-ltb s.flags 512 (omega (arith, h)))
+flags_few s b l h = h ∙ values_sound s ∙ rw (lt-ltb s.flags 512 l)
 
-sorts_more : (k : ℕ) → k < value_count → drop k sorts ≡ (field_of k).sort ∷ drop (k + 1) sorts
-unfolding fields_of
-sorts_more k h = drop-cons sorts k Price h ∙ (λ i. sort_is k i ∷ drop (sym (add-one k) i) sorts)
-
-module _ (s : Strip) (k : ℕ) (p : Judging s k) where
-  module _ (h : k < value_count) (q : Sort) (b : Bool) (e : q ≡ (field_of k).sort) (j : b ≡ sound_value q k s) where
-    next : (b && sound_from (k + 1) (drop (k + 1) sorts) s) ≡ sound_from 0 sorts s
-    unfolding sound_from
-    next =
-        ap (λ (a : Bool). a && sound_from (k + 1) (drop (k + 1) sorts) s) (j ∙ ap (λ (x : Sort). sound_value x k s) e)
-        ∙ ap (λ (l : List Sort). sound_from k l s) (sym (sorts_more k h)) ∙ p.same
-
-    pub judge_goes : b ≡ true → Judging s (k + 1)
-    judge_goes y = record { upto = omega (arith, h); few = p.few; same = rw y at next }
-
-    pub judge_fails : b ≡ false → false ≡ sound_strip s
-    unfolding sound_strip
-    judge_fails n =
-        let f : sound_from 0 sorts s ≡ false = sym (rw n at next) in
-        rw (lt-ltb s.flags 512 (omega (arith, p.few)), f)
-
-  pub judge_ends : value_count ≤ k → true ≡ sound_strip s
-  unfolding sound_strip sound_from fields_of
-  judge_ends h =
-      let e : k ≡ 9 = omega (arith, h, p.upto) in
-      let f : true ≡ sound_from 0 sorts s = rw e at p.same in
-      rw (lt-ltb s.flags 512 (omega (arith, p.few))) f
+pub flags_high : (s : Strip) → 512 ≤ s.flags → ltb s.flags 512 ≡ sound_strip s
+unfolding sound_strip
+flags_high s h = rw (le-ltb s.flags 512 h)
 
 -- a value comes
 pub stored_told : (k v : ℕ) (s : Strip) → k < value_count → ◌≡◌ {A = Strip}
@@ -99,62 +42,62 @@ stored_told k v s h =
     let e : 1 * 2 ^ k % 18446744073709551616 ≡ 2 ^ k = omega (arith, l) in
     rw e
 
--- one field after the other: what is still to come from here makes what all make
-pub record Storing (m : List ℕ) (s : Strip) (first count : ℕ) (x : Strip) (k left : ℕ) : Type 0 where
-  pub spans : Spans m k left
-  pub same : stored_all m (fields_from k left) x ≡ stored_all m (fields_from first count) s
+-- one value after the other: what is still to come from the k-th on makes what all make
+pub record Storing (m : List ℕ) (s : Strip) (r : Shape) (x : Strip) (k : ℕ) : Type 0 where
+  pub same : stored_all m (fields_from k (r.first + r.count - k)) x ≡ stored_all m (fields_from r.first r.count) s
 
-pub store_starts : (m : List ℕ) (s : Strip) (first count : ℕ) → Spans m first count → Storing m s first count s first count
-store_starts m s first count p = record { spans = p; same = refl }
+pub store_starts : (m : List ℕ) (s : Strip) (r : Shape) → Storing m s r s r.first
+store_starts m s r =
+    let e : r.first + r.count - r.first ≡ r.count = omega arith in
+    record { same = ap (λ (n : ℕ). stored_all m (fields_from r.first n) s) e }
 
-module _ (m : List ℕ) (s : Strip) (first count : ℕ) (x : Strip) (k left : ℕ) (p : Storing m s first count x k left) where
-  pub store_goes : (v : ℕ) (y : Strip) → 0 < left → v ≡ brings m (field_of k) → y ≡ stored k v x → Storing m s first count y (k + 1) (left - 1)
+module _ (m : List ℕ) (s : Strip) (r : Shape) (x : Strip) (k : ℕ) (p : Storing m s r x k) where
+  pub store_goes : (v : ℕ) (y : Strip) → k < r.first + r.count → Spans m r.first r.count → v ≡ brings m (field_of k) → y ≡ stored k v x → Storing m s r y (k + 1)
   unfolding stored_all
-  store_goes v y h e g = record {
-    spans = span_rest m k left p.spans h;
-    same =
-        ap (stored_all m (fields_from (k + 1) (left - 1)))
-        (g ∙ (λ i. stored (sym (number_is k (omega (arith, p.spans.few, h))) i) (e i) x))
-        ∙ ap (λ (fs : List Field). stored_all m fs x) (sym (from_more k left h)) ∙ p.same;
-  }
+  store_goes v y h z e g =
+      let n : ℕ = r.first + r.count - k in
+      let d : r.first + r.count - (k + 1) ≡ n - 1 = omega arith in
+      let more : 0 < n = omega (arith, h) in
+      record {
+        same =
+            rw d
+            (ap (stored_all m (fields_from (k + 1) (n - 1)))
+            (g ∙ (λ i. stored (sym (number_is k (omega (arith, z.few, h))) i) (e i) x))
+            ∙ ap (λ (fs : List Field). stored_all m fs x) (sym (from_more k n more)) ∙ p.same);
+      }
 
-  pub store_ends : left ≤ 0 → x ≡ stored_all m (fields_from first count) s
+  pub store_ends : r.first + r.count ≤ k → x ≡ stored_all m (fields_from r.first r.count) s
   unfolding stored_all fields_from
   store_ends h =
-      let e : left ≡ 0 = omega (arith, h) in
+      let e : r.first + r.count - k ≡ 0 = omega (arith, h) in
       rw e at p.same
 
-pub after_told : (m : List ℕ) (s x : Strip) (r : Shape) → r ≡ shape_of (field 2 2 m) → x ≡ stored_all m (fields_from r.first r.count) s → x ≡ strip_after m s
+-- what a message of a shape makes of a strip, and one of none
+pub after_told : (m : List ℕ) (s x : Strip) (o : Option Shape) (r : Shape) → o ≡ shape_if (msg_type m) → o ≡ Some r → x ≡ stored_all m (fields_from r.first r.count) s
+    → x ≡ strip_after m s
 unfolding strip_after
-after_told m s x r e h = h ∙ rw e (ap (λ (fs : List Field). stored_all m fs s) (same_fields (field 2 2 m)))
+after_told m s x o r g e h = h ∙ rw (found (msg_type m) o r g e).same (ap (λ (fs : List Field). stored_all m fs s) (same_fields (msg_type m)))
 
--- the two tests of a slot's words
-pub spare_used : (w : List ℕ) → (get_or w 11 0 ≡ 0 → ⊥) → false ≡ sound w
-unfolding sound
-spare_used w n = rw (ne_eqb (get_or w 11 0) 0 n)
+pub after_none : (m : List ℕ) (s : Strip) → Sized m → None ≡ shape_if (msg_type m) → s ≡ strip_after m s
+after_none m s z e = absurd (true≢false (sym z.listed ∙ not_found (msg_type m) e))
 
-pub spare_zero : (w : List ℕ) (s : Strip) (b : Bool) → get_or w 11 0 ≡ 0 → s ≡ strip_of w → b ≡ sound_strip s → b ≡ sound w
-unfolding sound
-spare_zero w s b z e h = h ∙ rw (eq-eqb (get_or w 11 0) 0 z) (ap sound_strip e)
+-- a slot's words: its spare one, and its strip
+module _ (w : List ℕ) where
+  pub spare_used : (get_or w 11 0 ≡ 0 → ⊥) → Err Unsound ≡ sound_strip_of w
+  unfolding sound
+  spare_used n = rw (ne_eqb (get_or w 11 0) 0 n)
 
-pub ruleset blocks = (
-  lists,
-  lt-length-set,
-  twelve_long,
-  strip_written,
-  legal_by,
-  value_come,
-  value_none,
-  judge_starts,
-  flags_high,
-  judge_goes,
-  judge_fails,
-  judge_ends,
-  stored_told,
-  store_starts,
-  store_goes,
-  store_ends,
-  after_told,
-  spare_used,
-  spare_zero,
-)
+  module _ (z : get_or w 11 0 ≡ 0) (s : Strip) (b : Bool) (e : s ≡ strip_of w) (h : b ≡ sound_strip s) where
+    sound_is : sound w ≡ b
+    unfolding sound
+    sound_is = rw (eq-eqb (get_or w 11 0) 0 z) (ap sound_strip (sym e) ∙ sym h)
+
+    pub words_sound : b ≡ true → Ok s ≡ sound_strip_of w
+    words_sound y = rw (sound_is ∙ y) (ap Ok e)
+
+    pub words_unsound : b ≡ false → Err Unsound ≡ sound_strip_of w
+    words_unsound n = rw (sound_is ∙ n)
+
+pub ruleset storing = (store_starts, store_goes, store_ends)
+
+pub ruleset reading = (spare_used, words_sound, words_unsound)

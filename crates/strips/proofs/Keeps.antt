@@ -17,13 +17,12 @@ use Rattle.wire.specs.Number.{field, biased, word32}
 use Rattle.wire.specs.Units.{msg_type}
 use Rattle.wire.specs.Codes.{security_code, listed_code}
 use Rattle.slots.proofs.Steps.{Preserves, Modest}
-use Rattle.strips.specs.Forms.{form_in, sorts, value_of, brings, listed_as, listed_field, listed_strip}
+use Rattle.strips.specs.Forms.{Field, form_in, sorts, value_of, brings, listed_as, listed_field, listed_strip}
 use Rattle.strips.specs.Words.{value_count, legal, sound_value, sound_from, sound_strip, stored, stored_all, strip_after}
 use Rattle.strips.specs.Code.Shapes.{shape_of, field_of, fields_from}
 use Rattle.strips.specs.Table.{strips, step_of}
 use Rattle.strips.specs.declared.Sort.{Sort}
 use Rattle.strips.specs.declared.Sort.TheVariants.{Price, Quantity, Direction, Imbalance}
-use Rattle.strips.specs.declared.Field.{Field}
 use Rattle.strips.specs.declared.Strip.{Strip}
 use Rattle.strips.proofs.Lists.{same_fields, few_values, number_is, sort_is}
 use Rattle.strips.proofs.Bits.{come_own, value_own, come_other, value_other}

@@ -5,3 +5,4 @@ pub mod Lawful
 pub mod Keeps
 pub mod Turning
 pub mod Showing
+pub mod Told

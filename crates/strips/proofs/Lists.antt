@@ -1,25 +1,28 @@
 -- The list of forms, and what the code of src/forms.rt comes to, return by return (specs/Forms, specs/Code/Shapes). Assumes nothing.
-use Prim.Native.Nat.{ℕ, zero, suc, ◌+◌, ◌-◌, ◌≤◌, ◌<◌, zero-le}
+use Prim.Native.Nat.{ℕ, zero, suc, ◌+◌, ◌-◌, ◌≤◌, ◌<◌}
+use native.Mathlib.Decide.{ℕ_discrete}
 use native.Mathlib.Omega.{arith}
-use mathlib.Core.Path.{◌≡◌, refl, sym, ap, ◌∙◌}
-use mathlib.Core.Bool.{Bool, true, false, cond, ◌&&◌, ◌||◌, or-false}
+use mathlib.Core.Path.{◌≡◌, refl, sym, ap, subst, ◌∙◌}
+use mathlib.Core.Bool.{Bool, true, false, cond, ◌&&◌, ◌||◌, true≢false}
 use mathlib.Core.List.{List, [], ◌∷◌, map}
+use Rattle.std.specs.List.{list_all, range_with_len}
+use Rattle.std.specs.Prelude.{Option, Some, None, is_some}
 use lib.Dec.{leb, ltb, eqb}
 use lib.ListN.{length, get_or, drop, get_or-map}
 use borrow.Author.Rules.{rules}
 use borrow.Author.Tests.{ltb-true, leb-true, eqb-true, ne_eqb}
 use Rattle.ground.specs.Choice.{one_of, pick, all}
 use Rattle.ground.proofs.Bools.{both, split}
-use Rattle.wire.specs.Number.{field, biased}
+use Rattle.wire.specs.Number.{field}
 use Rattle.wire.specs.Units.{msg_type}
 use Rattle.wire.specs.Codes.{listed_code}
-use Rattle.strips.specs.Forms.{Form, form, forms, form_of, is_strip, strip_sized, fields_of, sorts, directions, value_of, brings, listed_as, listed_field, listed_strip}
+use Rattle.strips.specs.Forms.{Field, Form, form, forms, form_of, is_strip, strip_sized, fields_of, sorts, value_of, brings, listed_as, listed_field, listed_strip}
 use Rattle.strips.specs.Words.{value_count}
-use Rattle.strips.specs.Code.Shapes.{shape, no_field, shape_in, shape_of, field_of, fields_from, width_of, lies, Inside, Spans, Sized}
+use Rattle.strips.specs.Code.Shapes.{no_field, shape_in, shape_of, shape_if, source_in, field_of, fields_from, width_of, lies, Inside, Spans, Sized}
 use Rattle.strips.specs.declared.Sort.{Sort}
 use Rattle.strips.specs.declared.Sort.TheVariants.{Price, Imbalance}
-use Rattle.strips.specs.declared.Field.{Field}
 use Rattle.strips.specs.declared.Shape.{Shape}
+use Rattle.strips.specs.declared.Source.{Source}
 
 -- what is the same of all that a list holds, and of the other, is the same of what is picked
 pick_same : {A B : Type 0} (f g : A → B) (t : ℕ) (ps : List (ℕ × A)) (other : A) → map (λ (p : ℕ × A). f p.1) ps ≡ map (λ (p : ℕ × A). g p.1) ps → f other ≡ g other
@@ -89,6 +92,36 @@ pub sort_is : (k : ℕ) → get_or sorts k Price ≡ (field_of k).sort
 unfolding field_of
 sort_is k = get_or-map (λ (f : Field). f.sort) (fields_of forms) k no_field
 
+-- where the list does not have a number, the other is picked
+pick_other : {A : Type 0} (t : ℕ) (ps : List (ℕ × A)) (other : A) → one_of t (map (λ (p : ℕ × A). p.0) ps) ≡ false → pick t ps other ≡ other
+unfolding pick one_of
+pick_other t [] other n = refl
+pick_other {A} t (p ∷ ps) other n = go (eqb t p.0) (pick_other t ps other) n
+  where
+    go : (b : Bool) → (one_of t (map (λ (q : ℕ × A). q.0) ps) ≡ false → pick t ps other ≡ other)
+        → (b || one_of t (map (λ (q : ℕ × A). q.0) ps)) ≡ false → cond b p.1 (pick t ps other) ≡ other
+    go true r e = absurd (true≢false e)
+    go false r e = r e
+
+-- a shape that is found is its type's; and where none is, the type is none of the strip's
+pub record Found (t : ℕ) (r : Shape) : Type 0 where
+  pub strip : is_strip t ≡ true
+  pub same : r ≡ shape_of t
+
+pub found : (t : ℕ) (o : Option Shape) (r : Shape) → o ≡ shape_if t → o ≡ Some r → Found t r
+found t o r = go (is_strip t) refl
+  where
+    go : (b : Bool) → is_strip t ≡ b → o ≡ cond b (Some (shape_of t)) None → o ≡ Some r → Found t r
+    go true y h e = record { strip = y; same = (cc) }
+    go false y h e = absurd (cc)
+
+pub not_found : (t : ℕ) → None ≡ shape_if t → is_strip t ≡ false
+not_found t = go (is_strip t) refl
+  where
+    go : (b : Bool) → is_strip t ≡ b → None ≡ cond b (Some (shape_of t)) None → is_strip t ≡ false
+    go true y e = absurd (cc)
+    go false y e = y
+
 -- a span: its first field lies inside the message, and so do those behind it
 pub from_more : (k left : ℕ) → 0 < left → fields_from k left ≡ field_of k ∷ fields_from (k + 1) (left - 1)
 unfolding fields_from
@@ -115,6 +148,25 @@ module _ (m : List ℕ) where
     pub span_rest : Spans m (k + 1) (left - 1)
     span_rest = record { few = omega (arith, p.few, h); inside = parts.1 }
 
+  -- and so is that of any value of the span
+  span_at : (first count k : ℕ) → Spans m first count → first ≤ k → k < first + count → (k < value_count) × Inside m (field_of k)
+  span_at first zero k p l h = absurd (omega (arith, l, h))
+  span_at first (suc n) k p l h =
+      let more : 0 < suc n = omega arith in
+      let e : suc n - 1 ≡ n = omega arith in
+      let rest : Spans m (first + 1) n = rw e at (span_rest first (suc n) p more) in
+      go (span_first first (suc n) p more) (λ (a : first + 1 ≤ k). span_at (first + 1) n k rest a (omega (arith, h))) (ℕ_discrete first k)
+    where
+      go : Inside m (field_of first) → (first + 1 ≤ k → (k < value_count) × Inside m (field_of k)) → Dec (first ≡ k) → (k < value_count) × Inside m (field_of k)
+      go i r (yes e) = (omega (arith, p.few, h), subst (λ (j : ℕ). Inside m (field_of j)) e i)
+      go i r (no e) = r (omega (arith, l, e))
+
+  pub span_few : (first count k : ℕ) → Spans m first count → first ≤ k → k < first + count → k < value_count
+  span_few first count k p l h = (span_at first count k p l h).0
+
+  pub span_inside : (first count k : ℕ) → Spans m first count → first ≤ k → k < first + count → Inside m (field_of k)
+  span_inside first count k p l h = (span_at first count k p l h).1
+
   -- a message of its form's size has its span
   type_spans : (t : ℕ) → length m ≡ (form_of t).size → Spans m (shape_of t).first (shape_of t).count
   type_spans t e = record { few = few_values t; inside = rw (same_fields t, e) (lawful_parts t).1 }
@@ -123,8 +175,8 @@ module _ (m : List ℕ) where
   unfolding strip_sized
   sized_is z = eqb-true (length m) (form_of (msg_type m)).size z.right
 
-  pub sized_spans : (r : Shape) → Sized m → r ≡ shape_of (msg_type m) → Spans m r.first r.count
-  sized_spans r z e = rw e (type_spans (msg_type m) (sized_is z))
+  pub sized_spans : (o : Option Shape) (r : Shape) → Sized m → o ≡ shape_if (msg_type m) → o ≡ Some r → Spans m r.first r.count
+  sized_spans o r z h e = rw (found (msg_type m) o r h e).same (type_spans (msg_type m) (sized_is z))
 
   -- so its code is there
   pub sized_code : Sized m → 8 ≤ length m
@@ -134,61 +186,31 @@ module _ (m : List ℕ) where
       span_first (shape_of t).first (shape_of t).count (type_spans t (sized_is z)) (ltb-true 0 (shape_of t).count (some_values t ∙ z.listed)) in
       omega (arith, i.head)
 
--- the shape of a type: by the arm that has its number, and where it has no arm
-pub shape_at : (t n : ℕ) (r x : Shape) → t ≡ n → r ≡ x → x ≡ shape_of n → r ≡ shape_of t
-shape_at t n r x e h q = h ∙ q ∙ ap shape_of (sym e)
-
--- (a number is none of those listed)
+-- no shape: the type is none of those listed
 abbrev pub Differs : ℕ → List ℕ → Type 0
 Differs t [] = Unit
 Differs t (n ∷ ns) = (t ≡ n → ⊥) × Differs t ns
 
-pick_none : {A : Type 0} (t : ℕ) (ps : List (ℕ × A)) (other : A) → Differs t (map (λ (p : ℕ × A). p.0) ps) → pick t ps other ≡ other
-unfolding pick
-pick_none t [] other d = refl
-pick_none t (p ∷ ps) other d = rw (ne_eqb t p.0 d.0) (pick_none t ps other d.1)
-
-pub shape_none : (t : ℕ) (r : Shape) → Differs t (map (λ (p : ℕ × Form). p.0) forms) → r ≡ shape 0 0 0 → r ≡ shape_of t
-unfolding shape_of form_of
-shape_none t r d h = h ∙ ap shape_in (sym (pick_none t forms (form 0 []) d))
-
-pub shape_strip : (t : ℕ) (r : Shape) → r ≡ shape_of t → ltb 0 r.count ≡ is_strip t
-shape_strip t r h = rw h (some_values t)
-
-pub shape_told : (m : List ℕ) (t : ℕ) (r : Shape) → t ≡ field 2 2 m → r ≡ shape_of t → r ≡ shape_of (field 2 2 m)
-shape_told m t r e h = rw (← e) h
-
-pub size_told : (m : List ℕ) (r : Shape) → r ≡ shape_of (field 2 2 m) → eqb (length m) r.size ≡ strip_sized m
-unfolding strip_sized shape_of
-size_told m r e = rw e
-
--- the field of a value: by its arm, and the last one where it has none
-pub field_at : (k n : ℕ) (r x : Field) → k ≡ n → r ≡ x → x ≡ field_of n → r ≡ field_of k
-field_at k n r x e h q = h ∙ q ∙ ap field_of (sym e)
-
-abbrev pub below : ℕ → List ℕ
-below zero = []
-below (suc n) = n ∷ below n
-
-past : (n k : ℕ) → Differs k (below n) → n ≤ k
-past zero k d = zero-le
-past (suc n) k d = omega (arith, past n k d.1, d.0)
-
-pub field_last : (k : ℕ) (r x : Field) → k < value_count → Differs k (below (value_count - 1)) → r ≡ x → x ≡ field_of (value_count - 1) → r ≡ field_of k
-field_last k r x l d h q =
-    let e : k ≡ value_count - 1 = omega (arith, l, past (value_count - 1) k d) in
-    field_at k (value_count - 1) r x e h q
-
-pub sort_told : (k : ℕ) (r : Field) → r ≡ field_of k → r.sort ≡ (field_of k).sort
-sort_told k r h = ap (λ (f : Field). f.sort) h
-
--- a direction
-pub direction_at : (n k : ℕ) → n ≡ k → true ≡ one_of k directions → true ≡ one_of n directions
-direction_at n k e h = rw e h
-
-pub direction_space : (n : ℕ) → (n ≡ 78 → ⊥) → (n ≡ 66 → ⊥) → (n ≡ 83 → ⊥) → eqb n 32 ≡ one_of n directions
+none_of : (t : ℕ) (ns : List ℕ) → Differs t ns → one_of t ns ≡ false
 unfolding one_of
-direction_space n a b c = rw (ne_eqb n 78 a, ne_eqb n 66 b, ne_eqb n 83 c) (sym (or-false (eqb n 32)))
+none_of t [] d = refl
+none_of t (n ∷ ns) d = rw (ne_eqb t n d.0) (none_of t ns d.1)
+
+pub shape_none : (t : ℕ) → Differs t (map (λ (p : ℕ × Form). p.0) forms) → None ≡ shape_if t
+unfolding is_strip
+shape_none t d = rw (none_of t (map (λ (p : ℕ × Form). p.0) forms) d)
+
+pub shape_strip : (t : ℕ) (r : Option Shape) → r ≡ shape_if t → is_some r ≡ is_strip t
+shape_strip t r h = ap is_some h ∙ split (λ (x : Option Shape). is_some x ≡ is_strip t) (is_strip t) (Some (shape_of t)) None (λ y. sym y) (λ n. sym n)
+
+-- the size of a message of a shape, and of one of none
+pub size_told : (m : List ℕ) (r : Shape) → Some r ≡ shape_if (msg_type m) → eqb (length m) r.size ≡ strip_sized m
+unfolding strip_sized shape_of
+size_told m r e = rw (found (msg_type m) (Some r) r e refl).same
+
+pub size_none : (m : List ℕ) → None ≡ shape_if (msg_type m) → eqb (length m) 0 ≡ strip_sized m
+unfolding strip_sized form_of is_strip
+size_none m e = rw (pick_other (msg_type m) forms (form 0 []) (not_found (msg_type m) e))
 
 -- what a field brings, by its kind
 module _ (m : List ℕ) (at d : ℕ) (e : d ≡ field 8 1 m) where
@@ -200,99 +222,53 @@ module _ (m : List ℕ) (at d : ℕ) (e : d ≡ field 8 1 m) where
   unfolding value_of
   a_quantity r s h = rw (← e, ne_eqb d 32 s) h
 
-module _ (m : List ℕ) (f : Field) (q : Sort) (e : f.sort ≡ q) where
-  module _ (i : Inside m f) where
-    width_is : f.width ≡ width_of q
-    width_is = i.wide ∙ ap width_of e
+module _ (m : List ℕ) (k : ℕ) (r : Source) (e : r ≡ source_in (field_of k)) (i : Inside m (field_of k)) (q : Sort) (s : r.sort ≡ q) where
+  at_is : r.at ≡ (field_of k).at
+  at_is = ap (λ (x : Source). x.at) e
 
-    pub sort_there : (n : ℕ) → width_of q ≡ n → f.at + n ≤ length m
-    sort_there n w = rw (← w, ← width_is) i.there
+  sort_of_it : q ≡ (field_of k).sort
+  sort_of_it = sym s ∙ ap (λ (x : Source). x.sort) e
 
-    pub sort_brought : (r : ℕ) → r ≡ value_of q m (field f.at (width_of q) m) → r ≡ brings m f
-    sort_brought r h = h ∙ (λ j. value_of (sym e j) m (field f.at (sym width_is j) m))
+  width_is : width_of q ≡ (field_of k).width
+  width_is = ap width_of sort_of_it ∙ sym i.wide
 
-    -- and whether it is listed
-    pub sort_judged : (a : ℕ) (b : Bool) → a ≡ field f.at (width_of q) m → b ≡ listed_as q a → b ≡ listed_field m f
-    sort_judged a b h l = l ∙ ap (listed_as q) h ∙ (λ j. listed_as (sym e j) (field f.at (sym width_is j) m))
+  pub sort_there : (n : ℕ) → width_of q ≡ n → r.at + n ≤ length m
+  sort_there n w = rw (← w, width_is, at_is) i.there
 
-  pub sort_listed : true ≡ listed_as q (field f.at f.width m) → true ≡ listed_field m f
-  sort_listed h = h ∙ (λ j. listed_as (sym e j) (field f.at f.width m))
+  pub sort_brought : (v : ℕ) → v ≡ value_of q m (field r.at (width_of q) m) → v ≡ brings m (field_of k)
+  sort_brought v h = h ∙ (λ j. value_of (sort_of_it j) m (field (at_is j) (width_is j) m))
 
-pub price_brought : (m : List ℕ) (at a r : ℕ) → a ≡ field at 4 m → r ≡ biased a → r ≡ biased (field at 4 m)
-price_brought m at a r h b = b ∙ ap biased h
+  -- and whether it is listed
+  pub sort_judged : (b : Bool) → b ≡ listed_as q (field r.at (width_of q) m) → b ≡ listed_field m (field_of k)
+  sort_judged b h = h ∙ (λ j. listed_as (sort_of_it j) (field (at_is j) (width_is j) m))
 
--- the field of a value in a message
-pub inside_told : (m : List ℕ) (k : ℕ) (f : Field) → Inside m (field_of k) → f ≡ field_of k → Inside m f
-inside_told m k f i e = rw e i
-
-pub brought_told : (m : List ℕ) (k r : ℕ) (f : Field) → f ≡ field_of k → r ≡ brings m f → r ≡ brings m (field_of k)
-brought_told m k r f e h = h ∙ ap (brings m) e
-
--- one field after the other: those from the k-th on are listed where all are
-pub record Listing (m : List ℕ) (first count k left : ℕ) : Type 0 where
-  pub spans : Spans m k left
-  pub same : all (listed_field m) (fields_from k left) ≡ all (listed_field m) (fields_from first count)
-
-pub list_starts : (m : List ℕ) (first count : ℕ) → Spans m first count → Listing m first count first count
-list_starts m first count p = record { spans = p; same = refl }
-
-module _ (m : List ℕ) (first count k left : ℕ) (p : Listing m first count k left) where
-  module _ (h : 0 < left) (f : Field) (e : f ≡ field_of k) (b : Bool) (q : b ≡ listed_field m f) where
-    next : (b && all (listed_field m) (fields_from (k + 1) (left - 1))) ≡ all (listed_field m) (fields_from first count)
-    unfolding all
-    next = ap (λ (a : Bool). a && all (listed_field m) (fields_from (k + 1) (left - 1))) (q ∙ ap (listed_field m) e) ∙ ap (all (listed_field m)) (sym (from_more k left h)) ∙ p.same
-
-    pub list_goes : b ≡ true → Listing m first count (k + 1) (left - 1)
-    list_goes y = record { spans = span_rest m k left p.spans h; same = rw y at next }
-
-    pub list_fails : b ≡ false → false ≡ all (listed_field m) (fields_from first count)
-    list_fails n = rw n at next
-
-  pub list_ends : left ≤ 0 → true ≡ all (listed_field m) (fields_from first count)
-  unfolding all fields_from
-  list_ends h =
-      let e : left ≡ 0 = omega (arith, h) in
-      rw e at p.same
+-- all fields of a span are listed where the fields of its values are, one by one
+pub span_listed : (m : List ℕ) (first count : ℕ) → list_all (λ (k : ℕ). listed_field m (field_of k)) (range_with_len first count) ≡ all (listed_field m) (fields_from first count)
+unfolding all fields_from
+span_listed m first zero = refl
+span_listed m first (suc n) = ap (λ (b : Bool). listed_field m (field_of first) && b) (span_listed m (first + 1) n)
 
 -- a message is listed where its code is and all its fields are
 module _ (m : List ℕ) (c : ℕ) (a : Bool) (ec : c ≡ field 4 4 m) (ea : a ≡ listed_code c) where
   listed_code_lem : listed_code (field 4 4 m) ≡ a
   listed_code_lem = ap listed_code (sym ec) ∙ sym ea
 
-  pub code_unlisted : a ≡ false → false ≡ listed_strip m
+  pub code_unlisted : a ≡ false → a ≡ listed_strip m
   unfolding listed_strip
-  code_unlisted n = rw (listed_code_lem ∙ n)
+  code_unlisted n = n ∙ rw (listed_code_lem ∙ n)
 
-  pub code_listed : (r : Shape) (b : Bool) → a ≡ true → r ≡ shape_of (field 2 2 m) → b ≡ all (listed_field m) (fields_from r.first r.count) → b ≡ listed_strip m
+  pub code_listed : (o : Option Shape) (r : Shape) (b : Bool) → a ≡ true → o ≡ shape_if (msg_type m) → o ≡ Some r → b ≡ all (listed_field m) (fields_from r.first r.count)
+      → b ≡ listed_strip m
   unfolding listed_strip
-  code_listed r b y er eb = eb ∙ rw (listed_code_lem ∙ y) (rw er (ap (all (listed_field m)) (same_fields (field 2 2 m))))
+  code_listed o r b y h e eb =
+      eb ∙ rw (listed_code_lem ∙ y) (rw (found (msg_type m) o r h e).same (ap (all (listed_field m)) (same_fields (msg_type m))))
 
-pub ruleset arms = (rules, shape_at, shape_none, field_at, field_last)
+pub ruleset sizes = (size_told, size_none)
 
-pub ruleset lists = (
-  rules,
-  sized_spans,
-  sized_code,
-  shape_strip,
-  shape_told,
-  size_told,
-  sort_told,
-  direction_at,
-  direction_space,
-  no_quantity,
-  a_quantity,
-  sort_there,
-  sort_brought,
-  sort_judged,
-  sort_listed,
-  price_brought,
-  inside_told,
-  brought_told,
-  list_starts,
-  span_first,
-  list_goes,
-  list_fails,
-  list_ends,
-  code_unlisted,
-  code_listed,
-)
+pub ruleset quantities = (no_quantity, a_quantity)
+
+pub ruleset sorts_told = (sort_there, sort_brought, sort_judged)
+
+pub ruleset listing = (sized_code, code_unlisted)
+
+pub ruleset spans = (rules, sized_spans)

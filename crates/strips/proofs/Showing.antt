@@ -1,17 +1,21 @@
 -- What the code of reading a strip comes to, return by return (specs/Reading). Assumes nothing.
-use Prim.Native.Nat.{ℕ, zero, suc, ◌+◌, ◌-◌, ◌*◌, ◌<◌}
+use Prim.Native.Nat.{ℕ, zero, suc, ◌+◌, ◌<◌}
 use native.Mathlib.Nat.{zero-add}
 use native.Mathlib.Omega.{arith}
 use mathlib.Core.Path.{◌≡◌, refl, sym, ap, ◌∙◌}
-use mathlib.Core.Bool.{Bool, true, false}
+use mathlib.Core.Bool.{Bool, true, false, cond}
 use mathlib.Core.List.{List, [], ◌∷◌}
 use types.Run
 use denote.Enum.Declared
 use lib.Dec.{ltb, eqb}
 use lib.IntN.{ℤ, pos, sub_ℕ}
-use lib.ListN.{length, take, drop, get_or}
+use lib.ListN.{length, get_or}
 use borrow.Author.Tests.{ltb-true}
+use Rattle.std.specs.Prelude.{Result, Ok, Err}
 use Rattle.ground.specs.Choice.{first}
+use Rattle.ground.specs.Refusals.{refusal_no}
+use Rattle.ground.specs.declared.Refusal.{Refusal}
+use Rattle.ground.specs.declared.Refusal.TheVariants.{Unsound}
 use Rattle.ground.proofs.Bools.{both}
 use Rattle.wire.specs.Number.{bias, word32}
 use Rattle.wire.specs.Codes.{listed_code}
@@ -20,17 +24,16 @@ use Rattle.slots.specs.Layout.{count_in, block, place_in}
 use Rattle.slots.specs.declared.Slot.{Slot}
 use Rattle.slots.specs.declared.Slot.TheVariants.{Held, Free, Full}
 use Rattle.slots.specs.contracts.Slot as slot'
-use Rattle.slots.proofs.Turning.{part_is}
 use Rattle.strips.specs.Forms.{fields_of, sorts}
-use Rattle.strips.specs.Words.{strip_width, value_count, strip_of, come, value, legal, sound_value, sound_from, sound_strip, sound}
+use Rattle.strips.specs.Words.{value_count, strip_of, come, value, legal, sound_value, sound_from, sound_strip, sound}
 use Rattle.strips.specs.Table.{strips}
-use Rattle.strips.specs.Reading.{no_strip, read_answer, price_shown, strip_shown, strip_refused, read_strip}
-use Rattle.strips.specs.Code.Shapes.{PriceAt, strip_of_block}
+use Rattle.strips.specs.Reading.{no_strip, read_answer, price_shown, strip_shown, strip_refused, read_as, read_strip}
+use Rattle.strips.specs.Code.Shapes.{PriceAt, sound_strip_of}
 use Rattle.strips.specs.declared.Sort.{Sort}
 use Rattle.strips.specs.declared.Sort.TheVariants.{Price}
 use Rattle.strips.specs.declared.Strip.{Strip}
-use Rattle.strips.specs.declared.StripRead.{StripRead}
-use Rattle.strips.proofs.Turning.{turning}
+use Rattle.strips.specs.declared.Shown.{Shown}
+use Rattle.slots.proofs.Turning.{held_fits}
 
 -- a price
 module _ (k : ℕ) (s : Strip) (b : Bool) (e : b ≡ come k s) where
@@ -62,79 +65,55 @@ price_at k s h l e =
     let p : sound_value Price k s ≡ true = rw (zero-add k, e) at (sound_at 0 sorts s (both (ltb s.flags 512) (sound_from 0 sorts s) h).1 k l) in
     record { below = λ y. ltb-true (value k s) word32 (rw y at p) }
 
--- all that a strip shows
-pub all_shown : (s : Strip) (nominal iep reference lower upper closing : ℤ) → nominal ≡ price_shown 0 s → iep ≡ price_shown 1 s → reference ≡ price_shown 3 s
-    → lower ≡ price_shown 4 s → upper ≡ price_shown 5 s → closing ≡ price_shown 8 s → ◌≡◌ {A = StripRead}
-    (record {
-      answer = 0;
-      flags = s.flags;
-      nominal = nominal;
-      iep = iep;
-      iev = get_or s.values 2 0;
-      reference = reference;
-      lower = lower;
-      upper = upper;
-      direction = get_or s.values 6 0;
-      imbalance = get_or s.values 7 0;
-      closing = closing;
-    })
-    (strip_shown s)
-all_shown s nominal iep reference lower upper closing a b c d e f = rw (a, b, c, d, e, f)
-
--- the strip in a slot's words
-module _ (w : List ℕ) (b : Bool) (e : b ≡ sound w) where
-  pub block_sound : (s : Strip) → b ≡ true → s ≡ strip_of w → sound_strip s ≡ true
-  unfolding sound
-  block_sound s y h = ap sound_strip h ∙ (both (eqb (get_or w 11 0) 0) (sound_strip (strip_of w)) (sym e ∙ y)).1
-
-  pub block_shown : (s : Strip) (x : StripRead) → b ≡ true → s ≡ strip_of w → x ≡ strip_shown s → x ≡ strip_of_block w
-  unfolding strip_of_block
-  block_shown s x y h q = q ∙ rw (sym e ∙ y) (ap strip_shown h)
-
-  pub block_unsound : (x : StripRead) → b ≡ false → x ≡ strip_refused 18 → x ≡ strip_of_block w
-  unfolding strip_of_block
-  block_unsound x n q = q ∙ rw (sym e ∙ n)
-
-pub read_slot : (k : ℕ) (t : List ℕ) (x : StripRead) → k < count_in strips (length t)
-    → x ≡ strip_of_block (take (strip_width * k + strip_width - strip_width * k) (drop (strip_width * k) t)) → x ≡ strip_of_block (block strips k t)
-read_slot k t x h q = q ∙ ap strip_of_block (part_is strips k t h)
+-- the strip in a slot's words is sound where it is found
+pub sound_found : (w : List ℕ) (o : Result Strip Refusal) (s : Strip) → o ≡ sound_strip_of w → o ≡ Ok s → sound_strip s ≡ true
+unfolding sound
+sound_found w o s = go (sound w) refl
+  where
+    go : (b : Bool) → sound w ≡ b → o ≡ cond b (Ok (strip_of w)) (Err Unsound) → o ≡ Ok s → sound_strip s ≡ true
+    go true y h e =
+        let f : s ≡ strip_of w = (cc) in
+        ap sound_strip f ∙ (both (eqb (get_or w 11 0) 0) (sound_strip (strip_of w)) y).1
+    go false n h e = absurd (cc)
 
 -- by the slot that was found for a code
-module _ (c : ℕ) (t : List ℕ) (a : Bool) (x : StripRead) (ea : a ≡ listed_code c) where
-  pub read_unlisted : a ≡ false → x ≡ strip_refused 15 → x ≡ read_strip c t
+module _ (c : ℕ) (t : List ℕ) (a : Bool) (ea : a ≡ listed_code c) where
+  pub read_unlisted : a ≡ false → strip_refused 15 ≡ read_strip c t
   unfolding read_strip read_answer first
-  read_unlisted n q = q ∙ rw (sym ea ∙ n)
+  read_unlisted n = rw (sym ea ∙ n)
 
   module _ (y : a ≡ true) where
     without : (p : Slot) → place_in strips c t ≡ p → no_strip p ≡ true → strip_refused 4 ≡ read_strip c t
     unfolding read_strip read_answer first
     without p e n = rw (sym ea ∙ y, e, n)
 
-    pub read_none : (f : Slot) → f ≡ place_in strips c t → Run.OneOf (1 ∷ 2 ∷ []) (Declared.tag_of slot'.the_type f) → x ≡ strip_refused 4 → x ≡ read_strip c t
+    pub read_none : (f : Slot) → f ≡ place_in strips c t → Run.OneOf (1 ∷ 2 ∷ []) (Declared.tag_of slot'.the_type f) → strip_refused 4 ≡ read_strip c t
     unfolding no_strip
-    read_none (Held k) e o q = absurd (Run.miss (1 ∷ 2 ∷ []) 0 tt o)
-    read_none (Free k) e o q = q ∙ without (Free k) (sym e) refl
-    read_none Full e o q = q ∙ without Full (sym e) refl
+    read_none (Held k) e o = absurd (Run.miss (1 ∷ 2 ∷ []) 0 tt o)
+    read_none (Free k) e o = without (Free k) (sym e) refl
+    read_none Full e o = without Full (sym e) refl
 
-    held_strip : (k : ℕ) → place_in strips c t ≡ Held k → (s : Bool) → sound (block strips k t) ≡ s → strip_of_block (block strips k t) ≡ read_strip c t
-    unfolding read_strip read_answer strip_of_block no_strip table.unsound_at table.value_at first
-    held_strip k e true s = rw (sym ea ∙ y, e, s)
-    held_strip k e false s = rw (sym ea ∙ y, e, s)
+    module _ (k : ℕ) (f : Slot) (w : List ℕ) (e : f ≡ place_in strips c t) (h : f ≡ Held k) (ew : w ≡ block strips k t) where
+      pub read_held : (o : Result Strip Refusal) (s : Strip) (x : Shown) → o ≡ sound_strip_of w → o ≡ Ok s → read_as x ≡ strip_shown s → read_as x ≡ read_strip c t
+      unfolding read_strip read_answer no_strip table.unsound_at table.value_at first
+      read_held o s x g eo q = go (sound (block strips k t)) refl (g ∙ ap sound_strip_of ew)
+        where
+          go : (b : Bool) → sound (block strips k t) ≡ b → o ≡ cond b (Ok (strip_of (block strips k t))) (Err Unsound) → read_as x ≡ read_strip c t
+          go true z j =
+              let i : s ≡ strip_of (block strips k t) = (cc) in
+              q ∙ ap strip_shown i ∙ rw (sym ea ∙ y, sym e ∙ h, z)
+          go false z j = absurd (cc)
 
-    pub read_held : (k : ℕ) (f : Slot) → f ≡ place_in strips c t → f ≡ Held k → x ≡ strip_of_block (block strips k t) → x ≡ read_strip c t
-    read_held k f e h q = q ∙ held_strip k (sym e ∙ h) (sound (block strips k t)) refl
+      pub read_unsound : (o : Result Strip Refusal) (r : Refusal) → o ≡ sound_strip_of w → o ≡ Err r → strip_refused (refusal_no r) ≡ read_strip c t
+      unfolding read_strip read_answer no_strip table.unsound_at table.value_at first
+      read_unsound o r g eo = go (sound (block strips k t)) refl (g ∙ ap sound_strip_of ew)
+        where
+          go : (b : Bool) → sound (block strips k t) ≡ b → o ≡ cond b (Ok (strip_of (block strips k t))) (Err Unsound) → strip_refused (refusal_no r) ≡ read_strip c t
+          go true z j = absurd (cc)
+          go false z j =
+              let i : r ≡ Unsound = (cc) in
+              rw (i, sym ea ∙ y, sym e ∙ h, z)
 
-pub ruleset showing = (
-  turning,
-  price_below,
-  price_come,
-  price_none,
-  all_shown,
-  block_sound,
-  block_shown,
-  block_unsound,
-  read_slot,
-  read_unlisted,
-  read_none,
-  read_held,
-)
+pub ruleset priced = (price_below, price_come, price_none)
+
+pub ruleset showing = (held_fits, sound_found, read_unlisted, read_none, read_held, read_unsound)

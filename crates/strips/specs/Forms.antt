@@ -7,9 +7,14 @@ use Rattle.wire.specs.Units.{msg_type}
 use Rattle.wire.specs.Codes.{security_code, listed_code}
 use Rattle.strips.specs.declared.Sort.{Sort}
 use Rattle.strips.specs.declared.Sort.TheVariants.{Price, Quantity, Direction, Imbalance}
-use Rattle.strips.specs.declared.Field.{Field}
 
--- a field: offset, width, kind, value number (fields and their kinds are declared in src/lib.rt: Field, Sort)
+-- a field: offset, width, kind, value number (the kinds are declared in src/lib.rt: Sort)
+pub record Field : Type 0 where
+  pub at : ℕ
+  pub width : ℕ
+  pub sort : Sort
+  pub number : ℕ
+
 abbrev pub place : ℕ → ℕ → Sort → ℕ → Field
 place at width sort number = record { at = at; width = width; sort = sort; number = number }
 

@@ -1,7 +1,9 @@
 -- Reading a strip by its code, a call of our own (DECISIONS 60). It writes nothing. Assumes nothing.
-use Rattle.std.specs.Prelude.{ℕ, Bool, true, false, cond, not, List, [], ◌∷◌, ℤ, pos, eqb}
+use Rattle.std.specs.Prelude.{ℕ, Bool, true, false, cond, not, List, [], ◌∷◌, ℤ, pos, eqb, Result, Ok, Err}
 use Rattle.std.proofs.Math.IntN.{sub_ℕ}
 use Rattle.ground.specs.Choice.{first}
+use Rattle.ground.specs.Refusals.{refusal_no}
+use Rattle.ground.specs.declared.Refusal.{Refusal}
 use Rattle.wire.specs.Number.{bias}
 use Rattle.wire.specs.Codes.{listed_code}
 use Rattle.slots.specs.Layout.{place_in, unsound_at}
@@ -10,7 +12,21 @@ use Rattle.slots.specs.declared.Slot.TheVariants.{Held, Free, Full}
 use Rattle.strips.specs.Words.{come, value}
 use Rattle.strips.specs.Table.{strips, strip_in}
 use Rattle.strips.specs.declared.Strip.{Strip}
-use Rattle.strips.specs.declared.StripRead.{StripRead}
+use Rattle.strips.specs.declared.Shown.{Shown}
+
+-- what reading a strip gives: the answer, and with answer 0 the flags and the values, prices signed as sent, 0 where none has come
+pub record StripRead : Type 0 where
+  pub answer : ℕ
+  pub flags : ℕ
+  pub nominal : ℤ
+  pub iep : ℤ
+  pub iev : ℕ
+  pub reference : ℤ
+  pub lower : ℤ
+  pub upper : ℤ
+  pub direction : ℕ
+  pub imbalance : ℕ
+  pub closing : ℤ
 
 -- no slot has the code
 unfoldable pub no_strip : Slot → Bool
@@ -65,3 +81,23 @@ strip_refused n = record {
 
 unfoldable pub read_strip : ℕ → List ℕ → StripRead
 read_strip c t = cond (eqb (read_answer c t) 0) (strip_shown (strip_in c t)) (strip_refused (read_answer c t))
+
+-- what the code gives, a strip as it is shown (declared in src/lib.rt: Shown) or why there is none, as that record
+abbrev pub read_as : Shown → StripRead
+read_as s = record {
+  answer = 0;
+  flags = s.flags;
+  nominal = s.nominal;
+  iep = s.iep;
+  iev = s.iev;
+  reference = s.reference;
+  lower = s.lower;
+  upper = s.upper;
+  direction = s.direction;
+  imbalance = s.imbalance;
+  closing = s.closing;
+}
+
+abbrev pub strip_read : Result Shown Refusal → StripRead
+strip_read (Ok s) = read_as s
+strip_read (Err e) = strip_refused (refusal_no e)

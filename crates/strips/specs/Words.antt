@@ -3,10 +3,9 @@ use Rattle.std.specs.Prelude.{ℕ, zero, suc, ◌+◌, ◌/◌, ◌%◌, ◌^◌
 use Rattle.std.specs.Int.Bits.{bit_or}
 use Rattle.ground.specs.Choice.{one_of}
 use Rattle.wire.specs.Number.{word32}
-use Rattle.strips.specs.Forms.{form_in, sorts, directions, brings}
+use Rattle.strips.specs.Forms.{Field, form_in, sorts, directions, brings}
 use Rattle.strips.specs.declared.Sort.{Sort}
 use Rattle.strips.specs.declared.Sort.TheVariants.{Price, Quantity, Direction, Imbalance}
-use Rattle.strips.specs.declared.Field.{Field}
 use Rattle.strips.specs.declared.Strip.{Strip}
 
 -- "12 words a security: code, flags .., then the nine values 0 to 8 .., one spare"

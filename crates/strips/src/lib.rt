@@ -11,16 +11,12 @@ pub use tables::{clear, read_strip, take};
 // The words of a strip: its code, its flags, its nine values, and a spare one.
 pub const STRIP_WORDS: usize = 12;
 
-const FLAGS_AT: usize = 1;
-
-const VALUES_AT: usize = 2;
-
 const VALUES: usize = 9;
 
 const SPARE_AT: usize = 11;
 
 // What a field brings: a price; a quantity; the direction of an imbalance; its quantity, which counts only beside a direction.
-#[derive(Clone, Copy)]
+#[derive(Clone, Copy, Debug, PartialEq, Eq)]
 pub enum Sort {
     Price,
     Quantity,
@@ -28,17 +24,15 @@ pub enum Sort {
     Imbalance,
 }
 
-// A field of a message: where it is, how many bytes it has, what it brings, and the number of its value.
-#[derive(Clone, Copy)]
-pub struct Field {
+// Where a value comes from: the place of its field in a message, and what the field brings.
+#[derive(Clone, Copy, Debug, PartialEq, Eq)]
+pub struct Source {
     pub at: usize,
-    pub width: usize,
     pub sort: Sort,
-    pub number: usize,
 }
 
 // A message: its size, the number of its first value, and how many it brings.
-#[derive(Clone, Copy)]
+#[derive(Clone, Copy, Debug, PartialEq, Eq)]
 pub struct Shape {
     pub size: usize,
     pub first: usize,
@@ -46,16 +40,15 @@ pub struct Shape {
 }
 
 // A strip: bit k of the flags is set once value k has come.
-#[derive(Clone, Copy)]
+#[derive(Clone, Copy, Debug, PartialEq, Eq)]
 pub struct Strip {
     pub flags: u64,
     pub values: [u64; VALUES],
 }
 
-// What reading a strip gives: the answer, and with answer 0 the flags and the values, prices signed as sent, 0 where none has come.
-#[derive(Clone, Copy)]
-pub struct StripRead {
-    pub answer: u64,
+// What a strip shows: the flags and the values, prices signed as sent, 0 where none has come.
+#[derive(Clone, Copy, Debug, PartialEq, Eq)]
+pub struct Shown {
     pub flags: u64,
     pub nominal: i64,
     pub iep: i64,

@@ -1,77 +1,75 @@
 // The words of a strip: read and written, what a message makes of it, and whether it is sound.
-ghost use Rattle.std.specs.Prelude.{◌≡◌, ◌<◌, length};
-ghost use Rattle.strips.specs.Words.{strip_width, value_count, strip_of, words_of, empty_strip, come, legal, sound_value, sound_strip, sound, stored as stored_at, stored_all, strip_after};
-ghost use Rattle.strips.specs.Code.Shapes.{fields_from, Spans, Sized};
+ghost use Rattle.std.specs.Prelude.{◌≡◌, ◌<◌};
+ghost use Rattle.strips.specs.Words.{value_count, strip_of, words_of, empty_strip, come, legal, sound_value, sound_strip, stored as stored_at, stored_all, strip_after};
+ghost use Rattle.strips.specs.Code.Shapes.{field_of, fields_from, sound_strip_of, Spans, Sized};
 
-use super::forms::{brought, is_direction, shape_in, sort_of};
-use super::{FLAGS_AT, SPARE_AT, Sort, Strip, VALUES, VALUES_AT};
-
-// A strip to which nothing has come.
-pub(crate) fn no_strip() -> Strip
-    ensures { result ≡ empty_strip }
-{
-    Strip {
-        flags: 0,
-        values: [0; VALUES],
-    }
-}
-
-// The strip in a slot's words.
-pub(crate) fn strip_in(block: &[u64]) -> Strip
-    requires { length block.now ≡ strip_width }
-    ensures { result ≡ strip_of block.now }
-{
-    Strip {
-        flags: block[FLAGS_AT],
-        values: [
-            block[VALUES_AT],
-            block[VALUES_AT + 1],
-            block[VALUES_AT + 2],
-            block[VALUES_AT + 3],
-            block[VALUES_AT + 4],
-            block[VALUES_AT + 5],
-            block[VALUES_AT + 6],
-            block[VALUES_AT + 7],
-            block[VALUES_AT + 8],
-        ],
-    }
-}
-
-// A strip written to its words: code, flags, values, zero.
-pub(crate) fn write(block: &mut [u64], code: u64, strip: Strip)
-    requires { length block.old ≡ strip_width }
-    ensures { block.new ≡ words_of code strip }
-{
-    let values = strip.values;
-    block[0] = code;
-    block[FLAGS_AT] = strip.flags;
-    block[VALUES_AT] = values[0];
-    block[VALUES_AT + 1] = values[1];
-    block[VALUES_AT + 2] = values[2];
-    block[VALUES_AT + 3] = values[3];
-    block[VALUES_AT + 4] = values[4];
-    block[VALUES_AT + 5] = values[5];
-    block[VALUES_AT + 6] = values[6];
-    block[VALUES_AT + 7] = values[7];
-    block[VALUES_AT + 8] = values[8];
-    block[SPARE_AT] = 0;
-}
+use super::forms::{is_direction, shape_in, sort_of, value_in};
+use super::{SPARE_AT, STRIP_WORDS, Shape, Sort, Strip, VALUES};
+use ground::Refusal;
 
 // Whether a value of a kind that has come is one that it can be.
+#[tactic(auto, unfolding(crate::specs::Words::legal))]
 fn is_legal(sort: Sort, v: u64) -> bool
     ensures { result ≡ legal sort v }
 {
     match sort {
         Sort::Price => v < wire::WORD32,
-        Sort::Quantity => true,
         Sort::Direction => is_direction(v),
-        Sort::Imbalance => true,
+        Sort::Quantity | Sort::Imbalance => true,
+    }
+}
+
+// A strip out of its words and into them.
+impl Strip {
+    // To which nothing has come.
+    pub(crate) fn empty() -> Strip
+        ensures { result ≡ empty_strip }
+    {
+        Strip {
+            flags: 0,
+            values: [0; VALUES],
+        }
+    }
+
+    // In a slot's words, whatever they are.
+    #[tactic(auto, unfolding(crate::specs::Words::strip_of, crate::specs::Words::words_from))]
+    pub(crate) fn of(words: &[u64; STRIP_WORDS]) -> Strip
+        ensures { result ≡ strip_of words.now }
+    {
+        let [_, flags, a, b, c, d, e, f, g, h, i, _] = *words;
+        Strip {
+            flags,
+            values: [a, b, c, d, e, f, g, h, i],
+        }
+    }
+
+    // In a slot's words, which have to be sound.
+    #[tactic(auto, using(crate::proofs::Blocks::reading))]
+    pub(crate) fn read(words: &[u64; STRIP_WORDS]) -> Result<Strip, Refusal>
+        ensures { result ≡ sound_strip_of words.now }
+    {
+        let strip = Strip::of(words);
+        if words[SPARE_AT] == 0 && strip.is_sound() {
+            Ok(strip)
+        } else {
+            Err(Refusal::Unsound)
+        }
+    }
+
+    // The words of a code's slot: code, flags, values, zero.
+    #[tactic(auto, unfolding(crate::specs::Words::words_of, crate::specs::Words::words_from))]
+    pub(crate) fn words(self, code: u64) -> [u64; STRIP_WORDS]
+        ensures { result ≡ words_of code self }
+    {
+        let [a, b, c, d, e, f, g, h, i] = self.values;
+        [code, self.flags, a, b, c, d, e, f, g, h, i, 0]
     }
 }
 
 // What a strip says of its values, and a strip with one more.
 impl Strip {
     // Whether value k has come.
+    #[tactic(auto, unfolding(crate::specs::Words::come))]
     pub(crate) fn has(self, k: usize) -> bool
         requires { k < value_count }
         ensures { result ≡ come k self }
@@ -79,82 +77,58 @@ impl Strip {
         (self.flags >> k) % 2 == 1
     }
 
-    // Whether value k, of its kind, is sound: one that it can be, or zero where it has not come.
-    fn is_value_sound(self, sort: Sort, k: usize) -> bool
+    // Whether value k is sound: one that its kind can be, or zero where it has not come.
+    fn is_value_sound(self, k: usize) -> bool
         requires { k < value_count }
-        ensures { result ≡ sound_value sort k self }
+        ensures { result ≡ sound_value (field_of k).sort k self }
     {
         let v = self.values[k];
         if self.has(k) {
-            return is_legal(sort, v);
+            is_legal(sort_of(k), v)
+        } else {
+            v == 0
         }
-        v == 0
     }
 
     // Whether the flags and all values are sound.
     pub(crate) fn is_sound(self) -> bool
         ensures { result ≡ sound_strip self }
     {
-        if 511 < self.flags {
-            return false;
-        }
-        let mut k = 0;
-        while k < VALUES {
-            if self.is_value_sound(sort_of(k), k) {
-                k += 1;
-            } else {
-                return false;
-            }
-        }
-        true
+        self.flags < 512 && (0..VALUES).all(|k| self.is_value_sound(k))
     }
 
     // Value k comes.
-    fn stored(self, k: usize, v: u64) -> Strip
+    #[tactic(auto, using(crate::proofs::Blocks::stored_told))]
+    fn stored(mut self, k: usize, v: u64) -> Strip
         requires { k < value_count }
         ensures { result ≡ stored_at k v self }
     {
-        let mut values = self.values;
-        values[k] = v;
-        Strip {
-            flags: self.flags | (1 << k),
-            values,
-        }
+        self.flags |= 1 << k;
+        self.values[k] = v;
+        self
     }
 
-    // The `count` values from the first on come.
-    fn with(self, m: &[u8], first: usize, count: usize) -> Strip
-        requires { Spans m.now first count }
-        ensures { result ≡ stored_all m.now (fields_from first count) self }
+    // The values of a message of a shape come.
+    #[tactic(auto, using(crate::proofs::Blocks::storing))]
+    fn with(mut self, m: &[u8], shape: Shape) -> Strip
+        requires { Spans m.now shape.first shape.count }
+        ensures { result ≡ stored_all m.now (fields_from shape.first shape.count) self }
     {
-        let mut strip = self;
-        let mut k = first;
-        let mut left = count;
-        while 0 < left {
-            strip = strip.stored(k, brought(m, k));
-            k += 1;
-            left -= 1;
+        for k in shape.first..shape.first + shape.count {
+            self = self.stored(k, value_in(m, k));
         }
-        strip
+        self
     }
 
     // What a message of the right size makes of the strip.
+    #[tactic(auto, using(crate::proofs::Blocks::after_none))]
     pub(crate) fn after(self, m: &[u8]) -> Strip
         requires { Sized m.now }
         ensures { result ≡ strip_after m.now self }
     {
-        let found = shape_in(m);
-        self.with(m, found.first, found.count)
+        match shape_in(m) {
+            Some(shape) => self.with(m, shape),
+            None => self,
+        }
     }
-}
-
-// Whether a slot's words are sound.
-pub(crate) fn is_sound(block: &[u64]) -> bool
-    requires { length block.now ≡ strip_width }
-    ensures { result ≡ sound block.now }
-{
-    if block[SPARE_AT] != 0 {
-        return false;
-    }
-    strip_in(block).is_sound()
 }

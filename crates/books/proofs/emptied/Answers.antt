@@ -7,5 +7,5 @@ returns-in_default c = search turning
 pub emptied_slot-requires : goal.emptied_slot-requires
 emptied_slot-requires c = search turning
 
-pub returns : goal.returns
-returns c = search turning
+pub returns-in-Held : goal.returns-in-Held
+returns-in-Held c = search turning

@@ -1,6 +1,8 @@
 -- Sides as the code has them, ten rows each by value and their counts beside them, and what it makes of them for an entry. Assumes nothing.
 use Rattle.std.specs.Prelude.{ℕ, ◌+◌, ◌-◌, ◌≤◌, min, ◌≡◌, Bool, false, cond, ◌&&◌, ◌||◌, List, [], ◌∷◌, ◌++◌, length, take, get_or, set, ltb, leb, eqb}
+use Rattle.std.specs.Prelude.{Result, Ok, Err, is_some, unwrap_or}
 use Rattle.ground.specs.Choice.{pick}
+use Rattle.ground.specs.declared.Refusal.{Refusal}
 use Rattle.slots.specs.Layout.{or_as_it_was}
 use Rattle.ladder.specs.Message.{new, change, delete, depth, bid_side}
 use Rattle.ladder.specs.Sides.{better, no_row, new_rows, delete_rows, rows_after, fell_from, was_dropped}
@@ -10,8 +12,7 @@ use Rattle.ladder.specs.declared.Way.{Way}
 use Rattle.ladder.specs.declared.Way.TheVariants.{Bid, Offer}
 use Rattle.ladder.specs.declared.Row.{Row}
 use Rattle.ladder.specs.declared.Entry.{Entry}
-use Rattle.ladder.specs.declared.Applied.{Applied}
-use Rattle.ladder.specs.declared.Walked.{Walked}
+use Rattle.ladder.specs.declared.Applied as told
 
 -- ten rows, of which n are used
 pub record Side : Type 0 where
@@ -78,6 +79,12 @@ drops_tenth action n = eqb action new && leb depth n
 
 -- all that the application of an entry that fits says of a side's rows: ten rows and a count after it, whether a row was dropped, and the row ("zeros if
 -- none was dropped")
+pub record Applied : Type 0 where
+  pub rows : List Row
+  pub count : ℕ
+  pub dropped : Bool
+  pub last : Row
+
 abbrev pub applied_to : Entry → List Row → Applied
 applied_to e s = record {
   rows = pad (rows_after e s);
@@ -86,6 +93,11 @@ applied_to e s = record {
   last = or_as_it_was (fell_from e s) no_row;
 }
 
--- what a walk says that an entry ends which does not fit
-abbrev pub refused : Walked
-refused = record { answer = 16; dropped = 0 }
+-- the same, of the row that may have been dropped
+abbrev pub applied_by : told.Applied → Applied
+applied_by a = record { rows = a.rows; count = a.count; dropped = is_some a.last; last = unwrap_or a.last no_row }
+
+-- how many rows a walk says that were dropped: none where it is refused
+abbrev pub dropped_of : Result ℕ Refusal → ℕ
+dropped_of (Ok n) = n
+dropped_of (Err e) = 0

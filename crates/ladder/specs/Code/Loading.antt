@@ -9,6 +9,7 @@ use Rattle.ladder.specs.Sides.{better, no_row}
 use Rattle.ladder.specs.Walk.{Book}
 use Rattle.ladder.specs.Words.{bid_count, offer_count, bids_at, offers_at, rows_from, words_of, zero_row}
 use Rattle.ladder.specs.declared.Way.{Way}
+use Rattle.ladder.specs.declared.Way.TheVariants.{Bid, Offer}
 use Rattle.ladder.specs.declared.Row.{Row}
 
 -- the two sides' ten rows, and their counts
@@ -17,6 +18,18 @@ rows_in w = rows_from bids_at w ∷ rows_from offers_at w ∷ []
 
 abbrev pub counts_in : List ℕ → List ℕ
 counts_in w = bid_count w ∷ offer_count w ∷ []
+
+-- where a side's count and its ten rows are in a book's words, and its count
+abbrev pub count_at : Way → ℕ
+count_at Bid = 1
+count_at Offer = 2
+
+abbrev pub rows_at : Way → ℕ
+rows_at Bid = bids_at
+rows_at Offer = offers_at
+
+abbrev pub count_in : Way → List ℕ → ℕ
+count_in way w = get_or w (count_at way) 0
 
 -- how many rows, from the first on, are each better than the next
 unfoldable pub in_order : Way → List Row → ℕ

@@ -1,17 +1,17 @@
 -- The list of forms as the code goes about it: a type's size, its first value and how many it brings; the field of a value. Assumes nothing.
-use Rattle.std.specs.Prelude.{ℕ, zero, suc, ◌+◌, ◌≤◌, ◌<◌, ◌≡◌, Bool, true, cond, ◌&&◌, List, [], ◌∷◌, leb, eqb, length, get_or}
+use Rattle.std.specs.Prelude.{ℕ, zero, suc, ◌+◌, ◌≤◌, ◌<◌, ◌≡◌, Bool, true, cond, ◌&&◌, List, [], ◌∷◌, leb, eqb, length, get_or, Option, Some, None, Result, Ok, Err}
 use Rattle.ground.specs.Choice.{all}
+use Rattle.ground.specs.declared.Refusal.{Refusal}
+use Rattle.ground.specs.declared.Refusal.TheVariants.{Unsound}
 use Rattle.wire.specs.Number.{word32}
 use Rattle.wire.specs.Units.{msg_type}
-use Rattle.strips.specs.Forms.{place, Form, forms, form_of, fields_of, is_strip, strip_sized}
+use Rattle.strips.specs.Forms.{Field, place, Form, forms, form_of, fields_of, is_strip, strip_sized}
 use Rattle.strips.specs.Words.{value_count, strip_of, come, value, sound}
-use Rattle.strips.specs.Reading.{strip_shown, strip_refused}
 use Rattle.strips.specs.declared.Sort.{Sort}
 use Rattle.strips.specs.declared.Sort.TheVariants.{Price, Quantity, Direction, Imbalance}
-use Rattle.strips.specs.declared.Field.{Field}
 use Rattle.strips.specs.declared.Shape.{Shape}
 use Rattle.strips.specs.declared.Strip.{Strip}
-use Rattle.strips.specs.declared.StripRead.{StripRead}
+use Rattle.strips.specs.declared.Source.{Source}
 
 abbrev pub shape : ℕ → ℕ → ℕ → Shape
 shape size first count = record { size = size; first = first; count = count }
@@ -26,6 +26,17 @@ shape_in f = shape f.size (get_or f.fields 0 no_field).number (length f.fields)
 
 unfoldable pub shape_of : ℕ → Shape
 shape_of t = shape_in (form_of t)
+
+-- the shape of a type that is one of the strip's
+abbrev pub shape_if : ℕ → Option Shape
+shape_if t = cond (is_strip t) (Some (shape_of t)) None
+
+-- what the code asks of a field: where it is, and its kind
+abbrev pub source : ℕ → Sort → Source
+source at sort = record { at = at; sort = sort }
+
+abbrev pub source_in : Field → Source
+source_in f = source f.at f.sort
 
 -- the field that brings value k, and those of so many values
 unfoldable pub field_of : ℕ → Field
@@ -64,6 +75,6 @@ pub record Sized (m : List ℕ) : Type 0 where
 pub record PriceAt (k : ℕ) (s : Strip) : Type 0 where
   pub below : come k s ≡ true → value k s < word32
 
--- the strip of a slot's words, as it is shown
-unfoldable pub strip_of_block : List ℕ → StripRead
-strip_of_block w = cond (sound w) (strip_shown (strip_of w)) (strip_refused 18)
+-- the strip of a slot's words, if they are sound
+abbrev pub sound_strip_of : List ℕ → Result Strip Refusal
+sound_strip_of w = cond (sound w) (Ok (strip_of w)) (Err Unsound)

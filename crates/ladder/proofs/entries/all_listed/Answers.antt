@@ -1,14 +1,12 @@
-use Rattle.ladder.proofs.Walks.{listing}
+use Prim.Native.Nat.{◌*◌}
+use mathlib.Core.Path.{refl, ◌∙◌}
+use native.Mathlib.Omega.{arith}
+use borrow.Author.Rules.{rules}
+use Rattle.std.proofs.lemmas.Iterator.{YieldsList-from_range}
+use Rattle.std.proofs.lemmas.Iterator.Search.{all_from_yields_List}
+use Rattle.ladder.proofs.Walks.{each_listed}
+use Rattle.ladder.specs.Message.{entry_size, entry_at, listed_entry}
 use Rattle.ladder.proofs.entries.all_listed.Goals as goal
 
-pub loop-i-init : goal.loop-i-init
-loop-i-init c = search listing
-
-pub loop-i-preserved : goal.loop-i-preserved
-loop-i-preserved c = search listing
-
-pub returns-else-is_listed : goal.returns-else-is_listed
-returns-else-is_listed c = search listing
-
 pub returns : goal.returns
-returns c = search listing
+returns c = all_from_yields_List (λ i. listed_entry (entry_at (entry_size * i) c.args.part.now)) _ _ _ c.all.ensures.ran (YieldsList-from_range 0 c.args.n c.args.n refl (omega arith)) (λ x b q k. search rules) ∙ each_listed 0 c.args.n c.args.part.now

@@ -6,3 +6,6 @@ loop-i-init c = search judges
 
 pub loop-i-preserved : goal.loop-i-preserved
 loop-i-preserved c = search judges
+
+pub returns : goal.returns
+returns c = search judges

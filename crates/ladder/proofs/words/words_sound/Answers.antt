@@ -7,8 +7,8 @@ loop-i-init c = search judges
 pub loop-i-preserved : goal.loop-i-preserved
 loop-i-preserved c = search judges
 
-pub returns-then-n-used : goal.returns-then-n-used
-returns-then-n-used c = search judges
+pub returns-then-used-n : goal.returns-then-used-n
+returns-then-used-n c = search judges
 
-pub returns : goal.returns
-returns c = search judges
+pub returns-else-used-n : goal.returns-else-used-n
+returns-else-used-n c = search judges

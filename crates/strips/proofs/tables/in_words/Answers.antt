@@ -1,8 +1,0 @@
-use Rattle.strips.proofs.Turning.{turning}
-use Rattle.strips.proofs.tables.in_words.Goals as goal
-
-pub returns-then-is_ready : goal.returns-then-is_ready
-returns-then-is_ready c = search turning
-
-pub returns : goal.returns
-returns c = search turning
