@@ -12,7 +12,9 @@ use borrow.Author.Tests.{leb-true, eqb-true, not-false}
 use borrow.Author.Rules.{rules}
 use Rattle.std.specs.Prelude.{Result, Ok, Err}
 use Rattle.std.specs.Option.{unwrap_or}
-use Rattle.std.specs.Result.{result_err}
+use Rattle.std.specs.Result.{result_err, result_and}
+use Rattle.ground.specs.Refusals.{answer_of}
+use Rattle.ladder.specs.Code.Arrays.{dropped_of}
 use Rattle.ground.specs.Choice.{first}
 use Rattle.ground.specs.declared.Refusal.{Refusal}
 use Rattle.ground.specs.declared.Refusal.TheVariants as refusal
@@ -74,6 +76,18 @@ strips_if : (z : Bool) (b u v : List ℕ) → lent b (cond z u v) ≡ cond z (le
 strips_if true b u v = refl
 strips_if false b u v = refl
 
+-- tables that are cleared where something holds
+pub cleared_when : (c : Bool) (b t u v w z : List ℕ) → c ≡ true → u ≡ w → v ≡ z → lent w z ≡ cleared_tables (lent b t) → lent u v ≡ cleared_if c (lent b t)
+cleared_when c b t u v w z e p q r = rw (e, p, q) r
+
+pub cleared_not : (c : Bool) (b t u v : List ℕ) → c ≡ false → u ≡ b → v ≡ t → lent u v ≡ cleared_if c (lent b t)
+cleared_not c b t u v e p q = rw (e, p, q)
+
+-- a table of strips drops no row
+pub no_rows : (t : Result (Prim.Unit {0}) Refusal) (r : Result ℕ Refusal) → r ≡ result_and t (Ok 0) → (answer_of r ≡ answer_of t) × (dropped_of r ≡ 0)
+no_rows (Ok t) r e = rw e (refl, refl)
+no_rows (Err x) r e = rw e (refl, refl)
+
 pub cleared_both : (b t u v : List ℕ) → u ≡ cleared_in books b → v ≡ cleared_in strips t → lent u v ≡ cleared_tables (lent b t)
 cleared_both b t u v e f = rw (e, f)
 
@@ -87,16 +101,11 @@ module _ (f : Feed) (b t m : List ℕ) (n q i : ℕ) (k : Kind) (a : k ≡ kind_
     unfolding first table_tests on_message unsound_for no_slot_for misfits_for passed on_market
     no_tests = rw (← a, e)
 
-    pub session_cleared : (u v : List ℕ) → c ≡ true → lent u v ≡ cleared_tables (lent b t)
+    pub session_met : (u v : List ℕ) → lent u v ≡ cleared_if c x
         → ((r j : ℕ) (x : Tables) → state_of y (cleared_if (clears s m f.fresh) x) ≡ taken n (Message r j m) (state_of f x)) → g ≡ answered 0 y
         → out_of g (lent u v) ≡ on_tables (state_of f (lent b t)) (Cut q i m n)
     unfolding on_tables handed time_of news number act dropped_on news_drops drops used_of offered
-    session_cleared u v h o w l = rw (no_tests, ← w q i x, ← d, h, l, o, ← a, e)
-
-    pub session_kept : c ≡ false → ((r j : ℕ) (x : Tables) → state_of y (cleared_if (clears s m f.fresh) x) ≡ taken n (Message r j m) (state_of f x)) → g ≡ answered 0 y
-        → out_of g (lent b t) ≡ on_tables (state_of f (lent b t)) (Cut q i m n)
-    unfolding on_tables handed time_of news number act dropped_on news_drops drops used_of offered
-    session_kept h w l = rw (no_tests, ← w q i x, ← d, h, l, ← a, e)
+    session_met u v o w l = rw (no_tests, ← w q i x, ← d, l, o, ← a, e)
 
   module _ (d : Datum) (g : Given) (e : k ≡ Market d) where
     -- one that goes to a table, by what that table answers
@@ -330,8 +339,10 @@ pub ruleset rows = (
   book_right,
   strip_right,
   cleared_both,
-  session_cleared,
-  session_kept,
+  cleared_when,
+  cleared_not,
+  no_rows,
+  session_met,
   book_met,
   strip_met,
   other_met,

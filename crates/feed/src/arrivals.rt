@@ -2,7 +2,7 @@
 ghost use Rattle.std.specs.Prelude.{◌≡◌, false, cond, ◌≤◌};
 ghost use Rattle.ground.specs.Refusals.{answer_of};
 ghost use Rattle.ladder.specs.Code.Arrays.{dropped_of};
-ghost use Rattle.feed.specs.Messages.{kind as kind_in, wrong_size};
+ghost use Rattle.feed.specs.Messages.{wrong_size};
 ghost use Rattle.feed.specs.Feeds.{in_phase, whole_is};
 ghost use Rattle.feed.specs.Events.{cleared_tables, Cut};
 ghost use Rattle.feed.specs.Promised.{ArriveSays, CutSays, OverrunSays};
@@ -15,20 +15,13 @@ use super::{Datum, Feed, Given, Kind, Phase, Turn};
 use ground::Refusal;
 use wire::{Cursor, Unit};
 
-// Every slot of both tables emptied.
+// Every slot of both tables emptied. The two slices are parameters and no struct's fields: of a field each contract would have to say besides that it is
+// the caller's slice, and as long as it was.
 fn clear(books: &mut [u64], strips: &mut [u64])
     ensures { lent books.new strips.new ≡ cleared_tables (lent books.old strips.old) }
 {
     books::clear(books);
     strips::clear(strips);
-}
-
-// What a table of strips took or refused; it drops no row.
-fn no_rows(taken: Result<(), Refusal>) -> Result<u64, Refusal>
-    ensures { (answer_of result ≡ answer_of taken) × (dropped_of result ≡ 0) }
-{
-    taken?;
-    Ok(0)
 }
 
 // What arrives, and all that is written.
@@ -40,35 +33,33 @@ impl Feed {
     {
         match taken {
             Ok(dropped) => self.numbered(internal, time).kept(0).dropping(dropped),
-            Err(refusal) => self.spoilt(u64::from(refusal)),
+            Err(refusal) => self.spoilt(refusal.into()),
         }
     }
 
     // A message that the feed leaves to the tables: what they make of it, and of the feed. All that is written is written here.
-    fn act(
-        self,
-        books: &mut [u64],
-        strips: &mut [u64],
-        kind: Kind,
-        internal: u32,
-        message: &[u8],
-        time: u64,
-    ) -> Given
-        requires { (kind ≡ kind_in message.now) × (wrong_size message.now ≡ false) × (self.next ≤ last_seq_num) }
-        ensures { out_of result (lent books.new strips.new) ≡ on_tables (state_of self (lent books.old strips.old)) (Cut self.next internal message.now time) }
+    #[tactic(auto, using(crate::proofs::Rows::rows))]
+    fn act(self, books: &mut [u64], strips: &mut [u64], arrival: Arrival<'_>, time: u64) -> Given
+        requires { (wrong_size arrival.message.now ≡ false) × (self.next ≤ last_seq_num) }
+        ensures { out_of result (lent books.new strips.new) ≡ on_tables (state_of self (lent books.old strips.old)) (Cut self.next arrival.entry.internal arrival.entry.message.now time) }
     {
-        match kind {
+        let message = arrival.message;
+        match arrival.kind {
             Kind::Session(session) => {
                 if self.is_clearing(session, message) {
                     clear(books, strips);
-                    return self.done(session, message, time).kept(0);
                 }
                 self.done(session, message, time).kept(0)
             }
             Kind::Market(datum) => match datum {
-                Datum::Book => self.market(books::take(books, message, time), internal, time),
-                Datum::Strip => self.market(no_rows(strips::take(strips, message)), internal, time),
-                Datum::Other => self.numbered(internal, time).kept(2),
+                Datum::Book => {
+                    self.market(books::take(books, message, time), arrival.internal, time)
+                }
+                Datum::Strip => {
+                    let taken = strips::take(strips, message).and(Ok(0));
+                    self.market(taken, arrival.internal, time)
+                }
+                Datum::Other => self.numbered(arrival.internal, time).kept(2),
             },
         }
     }
@@ -89,7 +80,7 @@ impl Feed {
         let arrival = Arrival::new(seq, internal, message);
         match self.verdict(arrival, time) {
             Ok(Turn::Seen) => self.advanced(time).kept(1),
-            Ok(Turn::Taken) => self.act(books, strips, arrival.kind, internal, message, time),
+            Ok(Turn::Taken) => self.act(books, strips, arrival, time),
             Err(refusal) => self.refused(refusal),
         }
     }
