@@ -5,11 +5,8 @@ ghost use Rattle.std.specs.Prelude.{◌≡◌};
 ghost use Rattle.screen.specs.Promised.{NewSays, ConnectSays, ArriveSays, FrameSays, CutSays, LinkSays, ScrapSays, BadgeSays, WhySays, RowSays, SideSays, StripSays, PasswordSays, VersionSays};
 ghost use Rattle.feed.specs.Steps.{lent};
 ghost use Rattle.lines.specs.Scraps.{heard_of};
-ghost use Rattle.screen.specs.Plain.{link_of, feed_of, plain_feed, plain_given, plain_frame, line_of, plain_line, plain_heard, plain_row, plain_side, plain_strip};
+ghost use Rattle.screen.specs.Plain.{link_of, feed_of, plain_feed, plain_given, plain_frame, line_of, plain_line, plain_heard};
 ghost use Rattle.screen.specs.Calls.{plain_silent};
-ghost use Rattle.books.specs.Reading.{row_refused};
-ghost use Rattle.books.specs.Code.Rows.{side_refused};
-ghost use Rattle.strips.specs.Reading.{strip_refused};
 
 use books::Level;
 use feed::{Feed, Frame, Given, Link};
