@@ -22,7 +22,7 @@ impl Held {
     ghost use Rattle.std.specs.Prelude.{◌≡◌, ◌+◌, ◌-◌, ◌≤◌, length, take, drop, []};
     ghost use Rattle.mmdh.specs.Code.Runs.{left};
 
-    // None.
+    // No bytes.
     pub fn new() -> Held
         ensures { left result ≡ [] }
     {
@@ -49,7 +49,8 @@ impl Held {
         self.from += n;
     }
 
-    // One read of standard input, behind what is left, which moves to the front: how many bytes came, none at its end, where the read fails, or where there is no room.
+    // One read of standard input, behind what is left, which moves to the front: how many bytes came, none at its end, where the read fails or where there is no
+    // room.
     pub fn read(&mut self, mut input: Stdin) -> usize
         ensures kept { take (length (left self.old)) (left self.new) ≡ left self.old }
         ensures more { length (left self.new) ≡ length (left self.old) + result }

@@ -21,8 +21,8 @@ const SLOTS: usize = TABLE_WORDS / ladder::BOOK_WORDS;
 
 const STRIPS_WORDS: usize = SLOTS * strips::STRIP_WORDS;
 
-// How far a run has come: the last answer, the units accepted, the feed with the words of its books and strips, the bytes that are left, and whether the run is over
-// (which no answer says alone: at a 3 it may go on).
+// How far a run has come: the last answer, the units accepted, the feed with the words of its books and strips, the bytes that are left, and whether the run is
+// over (a bool, as no answer says it alone: at a 3 the run may go on, and all else means the same once it is over).
 #[derive(Drop)]
 pub struct Run {
     pub answer: u64,
@@ -35,7 +35,7 @@ pub struct Run {
 }
 
 impl Run {
-    // The start of a run.
+    // A run before its first turn.
     fn new() -> Run
         ensures { Started result }
     {

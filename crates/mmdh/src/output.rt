@@ -93,7 +93,7 @@ impl Output {
         self.put_number(row.orders, b'\n');
     }
 
-    // Puts the lines of one side of the book in a slot's words, of its rows from word `base` on as many as there are by its count: at most ten.
+    // Puts the lines of one side of the book in a slot's words: of its ten rows, from word `base` on, as many as there are by its count.
     #[tactic(auto, using(crate::proofs::Texts::sides))]
     fn put_side(&mut self, words: &[u64; BOOK_WORDS], side: u64, base: usize, count: u64)
         requires { (base + side_width ≤ book_width) × (self.old.len + side_room ≤ text_room) }
@@ -163,8 +163,8 @@ impl Output {
     }
 }
 
-// Puts a number's decimal digits, of which there are at most 20, at the end of twenty bytes: the place where they begin. By hand, as `program` can't fail, and
-// of what `write!` puts nothing is known where it does.
+// Puts a number's decimal digits, of which there are at most 20, at the end of twenty bytes: the place where they begin. By hand, as `program` cannot fail:
+// what `write!` puts is known only where it answers Ok, and no contract says that it does.
 #[tactic(auto, using(crate::proofs::Texts::digits_end))]
 fn put_digits(digits: &mut [u8; 20], n: u64) -> usize
     ensures inside { result ≤ 20 }
