@@ -171,7 +171,7 @@ impl Line {
         for _unit in 0..allowed {
             heard = heard.onward(books, strips, hold, scrap, time);
             if !heard.goes_on() {
-                return heard;
+                break;
             }
         }
         heard
