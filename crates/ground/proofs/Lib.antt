@@ -1,3 +1,2 @@
 pub mod Bools
 pub mod Choices
-pub mod Ranges

@@ -31,7 +31,7 @@ fault_no NoSpecial = 5
 fault_no Used = 6
 
 abbrev pub verdict_no : Verdict → ℕ
-verdict_no (Ok u) = 0
+verdict_no (Ok _) = 0
 verdict_no (Err fault) = fault_no fault
 
 -- "at least 8 characters", "at least 16": a character is a byte

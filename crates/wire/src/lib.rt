@@ -34,6 +34,13 @@ pub enum Unit {
     },
 }
 
+// The bytes from a place on; none past the end.
+fn behind(s: &[u8], at: usize) -> &[u8]
+    ensures { result.now ≡ drop at s.now }
+{
+    &s[s.len().min(at)..]
+}
+
 // The number in the N bytes from `at` on, all of them there.
 pub fn number_in<const N: usize>(s: &[u8], at: usize) -> u64
     requires { (N ≤ 8) × (at + N ≤ length s.now) }
@@ -51,10 +58,7 @@ pub fn number_at<const N: usize>(s: &[u8], at: usize) -> u64
     requires { N ≤ 8 }
     ensures { (result ≡ field at N s.now) × (result < 256 ^ N) }
 {
-    if s.len() <= at {
-        return 0;
-    }
-    let rest = &s[at..];
+    let rest = behind(s, at);
     let mut v: u64 = 0;
     for i in (0..N).rev() {
         v = v * 256 + u64::from(rest.get(i).copied().unwrap_or(0));
@@ -63,6 +67,7 @@ pub fn number_at<const N: usize>(s: &[u8], at: usize) -> u64
 }
 
 // The word that a price is kept as, of the 4 bytes it came in.
+#[tactic(auto, unfolding(crate::specs::Number::biased))]
 pub fn biased(raw: u64) -> u64
     requires { raw < 4294967296 }
     ensures { (result ≡ biased_of raw) × (result < 4294967296) }
@@ -71,6 +76,7 @@ pub fn biased(raw: u64) -> u64
 }
 
 // Whether a code is one of 1 to 99,999.
+#[tactic(auto, unfolding(crate::specs::Codes::listed_code))]
 pub fn is_code(code: u64) -> bool
     ensures { result ≡ listed_code code }
 {
@@ -86,6 +92,7 @@ pub fn price_of(word: u64) -> i64
 }
 
 // What stands at the front of a stream.
+#[tactic(auto, unfolding(crate::specs::Units::unit_of))]
 fn unit_in(s: &[u8]) -> Unit
     ensures { result ≡ unit_of s.now }
 {
@@ -112,19 +119,6 @@ fn unit_in(s: &[u8]) -> Unit
     }
 }
 
-// The message of the unit at the front of a stream, as the very part of it; of a message that runs past the end, what is there.
-fn message_in(s: &[u8], size: usize) -> &[u8]
-    ensures { result.now ≡ message_in s.now size }
-{
-    if s.len() < HEADER_BYTES {
-        return &s[..0];
-    }
-    if s.len() - HEADER_BYTES < size {
-        return &s[HEADER_BYTES..];
-    }
-    &s[HEADER_BYTES..HEADER_BYTES + size]
-}
-
 // A place in a stream, by which units are taken off it.
 #[derive(Clone, Copy)]
 pub struct Cursor {
@@ -136,21 +130,14 @@ impl Cursor {
     pub fn read(self, s: &[u8]) -> Unit
         ensures { result ≡ unit_of (drop self.at s.now) }
     {
-        let at = self.at;
-        if s.len() < at {
-            return Unit::More;
-        }
-        unit_in(&s[at..])
+        unit_in(behind(s, self.at))
     }
 
     // The message of the unit that stands there, as the very part of the stream; of a message that runs past the end, what is there.
     pub fn message(self, s: &[u8], size: usize) -> &[u8]
         ensures { result.now ≡ message_in (drop self.at s.now) size }
     {
-        let at = self.at;
-        if s.len() < at {
-            return &s[..0];
-        }
-        message_in(&s[at..], size)
+        let rest = behind(behind(s, self.at), HEADER_BYTES);
+        &rest[..rest.len().min(size)]
     }
 }

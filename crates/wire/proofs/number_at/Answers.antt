@@ -1,11 +1,8 @@
 use mathlib.Core.Path.{ap, ◌∙◌}
 use Rattle.std.specs.Option.{unwrap_or}
 use native.Mathlib.Omega.{arith}
-use Rattle.wire.proofs.Cases.{cases, read_first, rest_is, read_below, none_is, none_below}
+use Rattle.wire.proofs.Cases.{cases, read_first, rest_is, read_below}
 use Rattle.wire.proofs.number_at.Goals as goal
-
-pub returns-then-s-at : goal.returns-then-s-at
-returns-then-s-at g c = (none_is _ _ _ c.if-s-at.true, none_below _)
 
 pub loop-i-init : goal.loop-i-init
 loop-i-init g c = search cases
@@ -22,4 +19,5 @@ loop-i-preserved g c =
     read_first _ _ _ _ _ c.loop-i.invariant c.loop-i-test.true is (rw c.from.ensures c.unwrap_or.type_inv)
 
 pub returns : goal.returns
-returns g c = (rest_is _ _ _ _ _ c.loop-i.invariant c.loop-i-test.false, read_below _ _ _ _ _ c.loop-i.invariant c.loop-i-test.false)
+returns g c =
+    (rest_is _ _ _ _ _ _ c.behind-rest.ensures c.loop-i.invariant c.loop-i-test.false, read_below _ _ _ _ _ c.loop-i.invariant c.loop-i-test.false)

@@ -1,17 +1,12 @@
-use Rattle.wire.proofs.Cases.{cases}
+use borrow.Author.Rules.{rules}
+use Rattle.wire.specs.Units.{unit_of}
+use Rattle.wire.proofs.Fields.{field_drop}
 use Rattle.wire.proofs.unit_in.Goals as goal
 
-pub returns-then-s-lt-HEADER_BYTES : goal.returns-then-s-lt-HEADER_BYTES
-returns-then-s-lt-HEADER_BYTES c = search cases
-
-pub returns-then-length : goal.returns-then-length
-returns-then-length c = search cases
-
-pub returns-then-s-lt-SIZED_BYTES : goal.returns-then-s-lt-SIZED_BYTES
-returns-then-s-lt-SIZED_BYTES c = search cases
-
 pub returns-then-s-size : goal.returns-then-s-size
-returns-then-s-size c = search cases
+unfolding unit_of
+returns-then-s-size c = rw (field_drop 0 2 20 c.args.s.now) (search rules)
 
 pub returns : goal.returns
-returns c = search cases
+unfolding unit_of
+returns c = rw (field_drop 0 2 20 c.args.s.now) (search rules)
