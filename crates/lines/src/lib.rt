@@ -1,7 +1,6 @@
 // Scraps of a line: what is no whole unit yet waits in a lent holding buffer (document 02, request 5).
 #![tactic(auto)]
 
-mod buffers;
 mod looks;
 mod scraps;
 

@@ -4,7 +4,6 @@ ghost use Rattle.feed.specs.Steps.{lent};
 ghost use Rattle.lines.specs.Scraps.{heard_of, holding, hearing, silent as silent_of, waits as waits_of, refused as refused_of, settled, looked, once as once_of, onward as onward_of, goes_on};
 ghost use Rattle.lines.specs.Promised.{ConnectSays, ScrapSays};
 
-use super::buffers::{gather, move_up};
 use super::looks::look_at;
 use super::{Heard, LEAST_HOLD, Line, Linked, Look};
 use feed::{Given, Link};
@@ -27,8 +26,8 @@ fn refused(given: Given, left: usize) -> Heard
     }
 }
 
-// A unit of n bytes that has been through the feed.
-#[tactic(auto, unfolding(crate::specs::Scraps::settled))]
+// A unit of n bytes that has been through the feed: where it is accepted, what waits behind it moves to the front.
+#[tactic(auto, using(crate::proofs::Copies::moved_none, crate::proofs::Copies::moved_up_lem), unfolding(crate::specs::Scraps::settled))]
 fn settle(given: Given, n: usize, held: usize, left: usize, hold: &mut [u8]) -> Heard
     requires { held ≤ length hold.old }
     ensures { holding (heard_of result) hold.new ≡ settled given n held left hold.old }
@@ -36,7 +35,9 @@ fn settle(given: Given, n: usize, held: usize, left: usize, hold: &mut [u8]) -> 
     if 2 < given.answer {
         return refused(given, left);
     }
-    move_up(hold, held, n);
+    if n < held {
+        hold.copy_within(n..held, 0);
+    }
     Heard {
         answer: Some(given.answer),
         accepted: 1,
@@ -81,8 +82,8 @@ impl Line {
         line.silent(scrap.len())
     }
 
-    // A finished unit of n bytes goes through the feed: out of the scrap where none of it has waited, else out of the buffer. The slices are parameters and
-    // no struct's fields: of a field each contract would have to say besides that it is the caller's slice, and as long as it was.
+    // A finished unit of n bytes goes through the feed: out of the scrap where none of it has waited, else out of the buffer, where it is put together. The
+    // slices are parameters and no struct's fields: of a field each contract would have to say besides that it is the caller's slice, and as long as it was.
     fn finish(
         self,
         books: &mut [u64],
@@ -98,7 +99,9 @@ impl Line {
         let given = if self.held == 0 {
             self.feed.arrive(books, strips, &scrap[..n], time)
         } else {
-            gather(hold, self.held, scrap, n);
+            if self.held < n {
+                hold[self.held..n].copy_from_slice(&scrap[..n - self.held]);
+            }
             self.feed.arrive(books, strips, &hold[..n], time)
         };
         settle(given, n, self.held, scrap.len(), hold)
@@ -171,7 +174,7 @@ impl Line {
         for _unit in 0..allowed {
             heard = heard.onward(books, strips, hold, scrap, time);
             if !heard.goes_on() {
-                return heard;
+                break;
             }
         }
         heard

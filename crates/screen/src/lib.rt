@@ -116,7 +116,7 @@ pub struct MmdhStrip {
 // The request that last changed the shape of a call or struct that was there before.
 const VERSION: u64 = 6;
 
-// The kind of a connect.
+// The kind of a connect. A function, and no From: neither type is of this crate.
 #[tactic(auto, unfolding(crate::specs::Plain::link_of))]
 fn link_of(resuming: u64) -> Link
     ensures { result ≡ link_of resuming }
