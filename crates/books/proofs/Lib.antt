@@ -4,3 +4,4 @@ pub mod Showing
 pub mod Sides
 pub mod Frames
 pub mod Emptying
+pub mod Told

@@ -238,10 +238,10 @@ fn row_of_book(words: &[u64; BOOK_WORDS], way: Way, rank: u64) -> Result<Level, 
     requires { (1 ≤ rank) × (rank ≤ depth) }
     ensures { row_read result ≡ row_of_book (side_no way) rank words.now }
 {
-    if !ladder::is_sound(words) {
-        return Err(Refusal::Unsound);
+    if ladder::is_sound(words) {
+        return row_of_side(words, way, rank);
     }
-    row_of_side(words, way, rank)
+    Err(Refusal::Unsound)
 }
 
 // A row by code, side and rank: 15, 4, 18, 4 or 0, in that order. It writes nothing.

@@ -18,6 +18,7 @@ use Rattle.feed.proofs.Feed.why.Reads as why
 use Rattle.books.proofs.read_row.Reads as read-row
 use Rattle.books.proofs.read_side.Reads as read-side
 use Rattle.strips.proofs.read_strip.Reads as read-strip
+use Rattle.books.proofs.Told.{row_read_one, side_read_one}
 use Rattle.strips.proofs.Told.{strip_read_one}
 use Rattle.password.proofs.check.Reads as check
 use Rattle.password.proofs.asked.Reads as asked
@@ -106,10 +107,10 @@ pub why_one : (κs : _) (a : _) (r r' : _) (x x' : _) → why.Learnt κs a r x �
 why_one κs a r r' x x' p q = p ∙ sym q
 
 pub read_row_one : (κs : _) (a : _) (r r' : _) (x x' : _) → read-row.Learnt κs a r x → read-row.Learnt κs a r' x' → r ≡ r'
-read_row_one κs a r r' x x' p q = p ∙ sym q
+read_row_one κs a r r' x x' p q = row_read_one r r' (p ∙ sym q)
 
 pub read_side_one : (κs : _) (a : _) (r r' : _) (x x' : _) → read-side.Learnt κs a r x → read-side.Learnt κs a r' x' → r ≡ r'
-read_side_one κs a r r' x x' p q = p ∙ sym q
+read_side_one κs a r r' x x' p q = side_read_one r r' (p ∙ sym q)
 
 pub read_strip_one : (κs : _) (a : _) (r r' : _) (x x' : _) → read-strip.Learnt κs a r x → read-strip.Learnt κs a r' x' → r ≡ r'
 read_strip_one κs a r r' x x' p q = strip_read_one r r' (p ∙ sym q)

@@ -421,11 +421,14 @@ pub fn mmdh_read_side(table: &[u64], code: u64, side: u64) -> MmdhSide
     ensures { SideSays table.now code side result }
 {
     match books::read_side(table, code, side) {
-        Ok(read) => MmdhSide {
-            answer: 0,
-            count: read.count,
-            row: read.rows,
-        },
+        Ok(read) => {
+            let row = read.rows;
+            MmdhSide {
+                answer: 0,
+                count: read.count,
+                row,
+            }
+        }
         Err(refusal) => no_side(u64::from(refusal)),
     }
 }
