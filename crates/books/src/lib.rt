@@ -21,7 +21,13 @@ ghost use Rattle.books.specs.Promised.{RowSays, SideSays};
 
 use ground::Refusal;
 use ladder::{BOOK_WORDS, BookSides, DEPTH, Row, Way};
-use slots::{MOST, Slot};
+use slots::{Layout, MOST, Slot};
+
+// How the table of books is laid out.
+const LAYOUT: Layout = Layout {
+    width: BOOK_WORDS,
+    most: MOST,
+};
 
 // A row that is read, its price signed as sent.
 #[repr(C)]
@@ -107,7 +113,7 @@ fn placed(table: &mut [u64], code: u64, part: &[u8], n: usize, time: u64) -> Res
     requires { entry_size * n ≤ length part.now }
     ensures { (landed (answer_of result) table.new ≡ place_turn books (place_in code table.old) code (walk time (entries_from n 0 part.now)) table.old) × (dropped_of result ≡ place_drops (place_in code table.old) time (entries_from n 0 part.now) table.old) }
 {
-    match slots::find(table, MOST, BOOK_WORDS, code) {
+    match LAYOUT.find(table, code) {
         Slot::Held(k) => in_slot(table, k, true, code, part, n, time),
         Slot::Free(k) => in_slot(table, k, false, code, part, n, time),
         Slot::Full => Err(Refusal::Full),
@@ -142,7 +148,7 @@ fn emptied_slot(table: &mut [u64], k: usize, code: u64) -> Result<u64, Refusal>
 fn emptied(table: &mut [u64], code: u64) -> Result<u64, Refusal>
     ensures { (landed (answer_of result) table.new ≡ held_turn books (place_in code table.old) code empties table.old) × (dropped_of result ≡ 0) }
 {
-    match slots::find(table, MOST, BOOK_WORDS, code) {
+    match LAYOUT.find(table, code) {
         Slot::Held(k) => emptied_slot(table, k, code),
         _ => Ok(0),
     }
@@ -164,7 +170,7 @@ pub fn is_listed(m: &[u8]) -> bool
 pub fn clear(table: &mut [u64])
     ensures { table.new ≡ cleared_in books table.old }
 {
-    slots::clear(table, MOST, BOOK_WORDS);
+    LAYOUT.clear(table);
 }
 
 // A book message of the right size on the table: 18, 17, 16 or 0, in that order; only with 0 is anything written.
@@ -179,15 +185,6 @@ pub fn take(table: &mut [u64], m: &[u8], time: u64) -> Result<u64, Refusal>
         return emptied(table, code);
     }
     placed(table, code, &m[ladder::ENTRIES_AT..], n, time)
-}
-
-// The words of slot k of the table.
-fn slot(table: &[u64], k: usize) -> &[u64; BOOK_WORDS]
-    requires { k < count_in books (length table.now) }
-    ensures { result.now ≡ block_of k table.now }
-{
-    let a = BOOK_WORDS * k;
-    table[a..a + BOOK_WORDS].as_array().unwrap()
 }
 
 // The side that is asked for, where code and side are listed.
@@ -252,8 +249,8 @@ pub fn read_row(table: &[u64], code: u64, side: u64, rank: u64) -> Result<Level,
     if !is_rank(rank) {
         return Err(Refusal::Unlisted);
     }
-    match slots::find(table, MOST, BOOK_WORDS, code) {
-        Slot::Held(k) => row_of_book(slot(table, k), way, rank),
+    match LAYOUT.find(table, code) {
+        Slot::Held(k) => row_of_book(slots::words_in(table, k), way, rank),
         _ => Err(Refusal::Missing),
     }
 }
@@ -292,8 +289,8 @@ pub fn read_side(table: &[u64], code: u64, side: u64) -> Result<Side, Refusal>
     ensures { SideSays table.now code side (side_read result) }
 {
     let way = asked(code, side)?;
-    match slots::find(table, MOST, BOOK_WORDS, code) {
-        Slot::Held(k) => side_of_book(slot(table, k), way),
+    match LAYOUT.find(table, code) {
+        Slot::Held(k) => side_of_book(slots::words_in(table, k), way),
         _ => Err(Refusal::Missing),
     }
 }

@@ -1,8 +1,7 @@
 -- What the functions' proofs take: the two loops, and the answers of `find`. Assumes nothing.
 use mathlib.Core.Path.{◌≡◌, refl, ◌∙◌}
 use mathlib.Core.List.{List, [], ◌++◌}
-use Prim.Native.Nat.{ℕ, min, ◌+◌, ◌-◌, ◌*◌, ◌/◌, ◌≤◌, ◌<◌}
-use native.Mathlib.Nat.{min_comm}
+use Prim.Native.Nat.{ℕ, ◌+◌, ◌-◌, ◌*◌, ◌≤◌, ◌<◌}
 use native.Mathlib.Omega.{arith}
 use lib.Dec.{ltb}
 use lib.ListN.{length, get_or, take, drop, replicate}
@@ -23,10 +22,6 @@ use Rattle.slots.proofs.Lookup.{lowest_words}
 pub record Seeking (t : List ℕ) (w c n k : ℕ) : Type 0 where
   pub upto : k ≤ n
   pub none : (j : ℕ) → j < k → get_or t (w * j) 0 ≡ c → ⊥
-
--- how many slots there are, as the code counts them
-pub counted : (most w len n : ℕ) → n ≡ min (len / w) most → n ≡ slot_count most w len
-counted most w len n e = e ∙ min_comm (len / w) most
 
 -- slot k lies within the table
 inside : (t : List ℕ) (most w n k : ℕ) → n ≡ slot_count most w (length t) → k < n → w * k + w ≤ length t

@@ -16,41 +16,54 @@ pub enum Slot {
     Full,
 }
 
-// The lowest slot with the code, if there is one.
-fn seek(table: &[u64], most: usize, width: usize, code: u64) -> Option<usize>
-    requires { 0 < width }
-    ensures { result ≡ found code (slots_of most width table.now) }
-{
-    let n = (table.len() / width).min(most);
-    for k in 0..n {
-        if table[width * k] == code {
-            return Some(k);
+// How the slots of a table are laid out: how many words each has, and how many there are at most.
+#[derive(Clone, Copy)]
+pub struct Layout {
+    pub width: usize,
+    pub most: usize,
+    ghost wide: { 0 < width },
+}
+
+impl Layout {
+    // How many slots a table has: whole blocks, and no more than the most.
+    fn count(self, table: &[u64]) -> usize
+        ensures { result ≡ slot_count self.most self.width (length table.now) }
+    {
+        (table.len() / self.width).min(self.most)
+    }
+
+    // The lowest slot with the code, if there is one.
+    fn seek(self, table: &[u64], code: u64) -> Option<usize>
+        ensures { result ≡ found code (slots_of self.most self.width table.now) }
+    {
+        for k in 0..self.count(table) {
+            if table[self.width * k] == code {
+                return Some(k);
+            }
+        }
+        None
+    }
+
+    // Where the code belongs in the table.
+    pub fn find(self, table: &[u64], code: u64) -> Slot
+        ensures { result ≡ place code (slots_of self.most self.width table.now) }
+    {
+        match self.seek(table, code) {
+            Some(k) => Slot::Held(k),
+            None => match self.seek(table, 0) {
+                Some(k) => Slot::Free(k),
+                None => Slot::Full,
+            },
         }
     }
-    None
-}
 
-// Where the code belongs in the table.
-pub fn find(table: &[u64], most: usize, width: usize, code: u64) -> Slot
-    requires { 0 < width }
-    ensures { result ≡ place code (slots_of most width table.now) }
-{
-    match seek(table, most, width, code) {
-        Some(k) => Slot::Held(k),
-        None => match seek(table, most, width, 0) {
-            Some(k) => Slot::Free(k),
-            None => Slot::Full,
-        },
+    // Zeroes every slot; the words behind the slots stay.
+    pub fn clear(self, table: &mut [u64])
+        ensures { table.new ≡ cleared self.most self.width table.old }
+    {
+        let end = self.width * self.count(table);
+        table[..end].fill(0);
     }
-}
-
-// Zeroes every slot; the words behind the slots stay.
-pub fn clear(table: &mut [u64], most: usize, width: usize)
-    requires { 0 < width }
-    ensures { table.new ≡ cleared most width table.old }
-{
-    let n = (table.len() / width).min(most);
-    table[..width * n].fill(0);
 }
 
 // The words of slot k.

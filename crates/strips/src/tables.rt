@@ -10,13 +10,19 @@ ghost use Rattle.strips.specs.Code.Shapes.{Sized, PriceAt};
 
 use super::{STRIP_WORDS, Shown, Strip};
 use ground::Refusal;
-use slots::{MOST, Slot};
+use slots::{Layout, MOST, Slot};
+
+// How the table of strips is laid out.
+const LAYOUT: Layout = Layout {
+    width: STRIP_WORDS,
+    most: MOST,
+};
 
 // Every slot of the table emptied; the words behind the slots stay.
 pub fn clear(table: &mut [u64])
     ensures { table.new ≡ cleared_in strips table.old }
 {
-    slots::clear(table, MOST, STRIP_WORDS);
+    LAYOUT.clear(table);
 }
 
 // A strip message of the right size on the table: unsound, full or taken, in that order; only when it is taken is anything written. A code's own strip has
@@ -27,7 +33,7 @@ pub fn take(table: &mut [u64], m: &[u8]) -> Result<(), Refusal>
     ensures { landed (answer_of result) table.new ≡ turn strips (step_of m.now) table.old }
 {
     let code = wire::number_in::<4>(m, wire::CODE_AT);
-    match slots::find(table, MOST, STRIP_WORDS, code) {
+    match LAYOUT.find(table, code) {
         Slot::Held(k) => {
             let strip = Strip::read(slots::words_in(table, k))?;
             slots::put(table, k, &strip.after(m).words(code));
@@ -86,7 +92,7 @@ pub fn read_strip(table: &[u64], code: u64) -> Result<Shown, Refusal>
     if !wire::is_code(code) {
         return Err(Refusal::Unlisted);
     }
-    let Slot::Held(k) = slots::find(table, MOST, STRIP_WORDS, code) else {
+    let Slot::Held(k) = LAYOUT.find(table, code) else {
         return Err(Refusal::Missing);
     };
     let strip = Strip::read(slots::words_in(table, k))?;

@@ -10,8 +10,8 @@ returns-then-not-is_rank c = search showing
 pub row_of_book-requires : goal.row_of_book-requires
 row_of_book-requires c = search showing
 
-pub slot-requires : goal.slot-requires
-slot-requires c = search showing
+pub words_in-requires : goal.words_in-requires
+words_in-requires c = search showing
 
 pub returns-in-Held : goal.returns-in-Held
 returns-in-Held c = search showing

@@ -1,5 +1,5 @@
 use Rattle.slots.proofs.Cases.{find_held, find_free, find_full}
-use Rattle.slots.proofs.find.Goals as goal
+use Rattle.slots.proofs.Layout.find.Goals as goal
 
 pub returns-in-Some : goal.returns-in-Some
 returns-in-Some c = find_held _ _ _ _ c.seek.ensures c.in-Some.is
