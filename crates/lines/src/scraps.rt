@@ -83,7 +83,8 @@ impl Line {
     }
 
     // A finished unit of n bytes goes through the feed: out of the scrap where none of it has waited, else out of the buffer, where it is put together. The
-    // slices are parameters and no struct's fields: of a field each contract would have to say besides that it is the caller's slice, and as long as it was.
+    // slices are parameters and no struct's fields: each contract would have to say besides that a field is still the caller's slice, and two fields lent in
+    // one call get no generated proof.
     fn finish(
         self,
         books: &mut [u64],
