@@ -29,7 +29,7 @@ pub(crate) fn word_if(c: bool, a: u64, b: u64) -> u64
     if c { a } else { b }
 }
 
-// One row of two, word by word.
+// One row of two, word by word: so LLVM chooses without a branch (docs/SPEED-TRIED.md, "R").
 fn row_if(c: bool, a: Row, b: Row) -> Row
     ensures { result ≡ cond c a b }
 {
@@ -76,22 +76,11 @@ fn rows_after(rows: [Row; DEPTH], e: Entry) -> [Row; DEPTH]
     ensures { result ≡ ten_after e rows }
 {
     let at = e.level - 1;
-    let row = e.row;
-    if e.action == NEW {
-        return insert_row(rows, at, row);
+    match e.action {
+        NEW => insert_row(rows, at, e.row),
+        CHANGE => set_row(rows, at, e.row),
+        _ => drop_row(rows, at),
     }
-    if e.action == CHANGE {
-        return set_row(rows, at, row);
-    }
-    drop_row(rows, at)
-}
-
-// The count after one row more, of which ten at most stay.
-fn one_more(n: usize) -> usize
-    requires { n ≤ depth }
-    ensures { result ≡ min depth (n + 1) }
-{
-    DEPTH.min(n + 1)
 }
 
 // The count of a side of n rows after such an entry.
@@ -100,13 +89,11 @@ fn count_after(n: usize, action: u64) -> usize
     requires { (n ≤ depth) × ((eqb action new || leb 1 n) ≡ true) }
     ensures { result ≡ count_after action n }
 {
-    if action == NEW {
-        return one_more(n);
+    match action {
+        NEW => DEPTH.min(n + 1),
+        CHANGE => n,
+        _ => n - 1,
     }
-    if action == CHANGE {
-        return n;
-    }
-    n - 1
 }
 
 // Whether such an entry drops the tenth row of a side of n rows.
@@ -178,14 +165,10 @@ pub(crate) fn fits_at(
     requires { n ≤ depth }
     ensures { result ≡ fits_at way action n p above old price }
 {
-    if action == NEW {
-        return new_fits(way, n, p, above, old, price);
+    match action {
+        NEW => new_fits(way, n, p, above, old, price),
+        CHANGE => p <= n && price == old,
+        DELETE => p <= n,
+        _ => false,
     }
-    if n < p {
-        return false;
-    }
-    if action == CHANGE {
-        return price == old;
-    }
-    action == DELETE
 }
