@@ -76,11 +76,22 @@ pub fn words_in<const W: usize>(table: &[u64], k: usize) -> &[u64; W]
     table[a..a + W].as_array().unwrap()
 }
 
+// A slot's words written over, as one array: by copy_from_slice a strip message takes a tenth longer.
+fn overwrite<const W: usize>(slot: &mut [u64], words: &[u64; W])
+    requires { length slot.old ≡ W }
+    ensures { slot.new ≡ words.now }
+{
+    let Some(all) = slot.as_mut_array() else {
+        unreachable!()
+    };
+    *all = *words;
+}
+
 // Slot k written over.
 pub fn put<const W: usize>(table: &mut [u64], k: usize, words: &[u64; W])
     requires { k < slot_count max_slots W (length table.old) }
     ensures { table.new ≡ put W k words.now table.old }
 {
     let a = W * k;
-    table[a..a + W].copy_from_slice(words);
+    overwrite(&mut table[a..a + W], words);
 }
