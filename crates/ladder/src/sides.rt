@@ -110,11 +110,9 @@ pub(crate) fn apply(rows: [Row; DEPTH], n: usize, e: Entry) -> Applied
     ensures { applied_by result ≡ applied_to e (take n rows) }
 {
     let last = drops_tenth(n, e.action).then_some(rows[LAST]);
-    Applied {
-        rows: rows_after(rows, e),
-        count: count_after(n, e.action),
-        last,
-    }
+    let count = count_after(n, e.action);
+    let rows = rows_after(rows, e);
+    Applied { rows, count, last }
 }
 
 // Whether price a is strictly better than price b.
