@@ -6,36 +6,21 @@ ghost use Rattle.ground.specs.Choice.{all};
 
 use super::{CLEAR, DELETE, DEPTH, ENTRY_BYTES, Entry, OFFER, Row};
 
-// An entry of the numbers that were sent.
-fn entry_of(quantity: u64, raw: u64, orders: u64, side: u64, level: u64, action: u64) -> Entry
-    requires { (raw < word32) × (level < 256) }
-    ensures { result ≡ entry_of quantity raw orders side level action }
-{
-    let price = wire::biased(raw);
-    Entry {
-        row: Row {
-            price,
-            quantity,
-            orders,
-        },
-        side,
-        level: level as usize,
-        action,
-    }
-}
-
 // The entry in the 24 bytes from `at` on, all of them there.
 pub(crate) fn entry_at(part: &[u8], at: usize) -> Entry
     requires { at + entry_size ≤ length part.now }
     ensures { result ≡ entry_at at part.now }
 {
-    let quantity = wire::number_in::<8>(part, at);
-    let raw = wire::number_in::<4>(part, at + 8);
-    let orders = wire::number_in::<4>(part, at + 12);
-    let side = wire::number_in::<2>(part, at + 16);
-    let level = wire::number_in::<1>(part, at + 18);
-    let action = wire::number_in::<1>(part, at + 19);
-    entry_of(quantity, raw, orders, side, level, action)
+    Entry {
+        row: Row {
+            price: wire::biased(wire::number_in::<4>(part, at + 8)),
+            quantity: wire::number_in::<8>(part, at),
+            orders: wire::number_in::<4>(part, at + 12),
+        },
+        side: wire::number_in::<2>(part, at + 16),
+        level: wire::number_in::<1>(part, at + 18) as usize,
+        action: wire::number_in::<1>(part, at + 19),
+    }
 }
 
 // Whether a number is a rank.

@@ -88,18 +88,17 @@ impl Way {
     }
 }
 
-// The side of a number as sent: 0 the bids, 1 the offers.
+// The side of a number as sent: 0 the bids, 1 the offers. A match on both had the walk branch by the side of each entry.
 impl TryFrom<u64> for Way {
     type Error = Refusal;
 
     ghost try_from_gives = { λ side r. MatchResult r (λ way. (side ≤ 1) × (way ≡ way_of side)) (λ e. (1 < side) × (e ≡ Unlisted)) };
 
     fn try_from(side: u64) -> Result<Way, Refusal> {
-        match side {
-            BID => Ok(Way::Bid),
-            OFFER => Ok(Way::Offer),
-            _ => Err(Refusal::Unlisted),
+        if OFFER < side {
+            return Err(Refusal::Unlisted);
         }
+        Ok(if side == BID { Way::Bid } else { Way::Offer })
     }
 }
 
@@ -118,14 +117,15 @@ pub const NO_ROW: Row = Row {
     orders: 0,
 };
 
-// Both sides of a book, the bids first: ten rows each, and how many of them are used.
+// Both sides of a book, the bids first: ten rows each, and how many of them are used. An array of structs was slower (docs/SPEED-TRIED.md, `[Side; 2]`).
 #[derive(Clone, Copy)]
 pub struct BookSides {
     pub rows: [[Row; DEPTH]; 2],
     pub counts: [usize; 2],
 }
 
-// An entry of a book message, its numbers as sent, unlisted ones too, but for the price, which is the row's price word.
+// An entry of a book message, its numbers as sent, but for the price, which is the row's price word. Side and action are numbers, since unlisted ones are
+// entries too (specs/Message: entry_of, listed_entry).
 #[derive(Clone, Copy)]
 pub struct Entry {
     pub row: Row,

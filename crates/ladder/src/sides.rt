@@ -29,7 +29,7 @@ pub(crate) fn word_if(c: bool, a: u64, b: u64) -> u64
     if c { a } else { b }
 }
 
-// One row of two, word by word.
+// One row of two, word by word: so LLVM chooses without a branch (docs/SPEED-TRIED.md, "R").
 fn row_if(c: bool, a: Row, b: Row) -> Row
     ensures { result ≡ cond c a b }
 {
@@ -69,29 +69,21 @@ fn drop_row(rows: [Row; DEPTH], at: usize) -> [Row; DEPTH]
     })
 }
 
-// The ten rows of a side after an entry that is new, a change, or else a delete: the one application, for either side.
+// The ten rows of a side after an entry that is new, a change, or else a delete: the one application, for either side. Here, in count_after and in
+// fits_at the actions are tested one by one, the new one first: a match tests the highest first, and a message took 3 % longer.
 #[tactic(auto, unfolding(crate::specs::Code::Arrays::ten_after, ground::specs::Choice::pick))]
 fn rows_after(rows: [Row; DEPTH], e: Entry) -> [Row; DEPTH]
     requires { (1 ≤ e.level) × (e.level ≤ depth) }
     ensures { result ≡ ten_after e rows }
 {
     let at = e.level - 1;
-    let row = e.row;
     if e.action == NEW {
-        return insert_row(rows, at, row);
+        return insert_row(rows, at, e.row);
     }
     if e.action == CHANGE {
-        return set_row(rows, at, row);
+        return set_row(rows, at, e.row);
     }
     drop_row(rows, at)
-}
-
-// The count after one row more, of which ten at most stay.
-fn one_more(n: usize) -> usize
-    requires { n ≤ depth }
-    ensures { result ≡ min depth (n + 1) }
-{
-    DEPTH.min(n + 1)
 }
 
 // The count of a side of n rows after such an entry.
@@ -101,7 +93,7 @@ fn count_after(n: usize, action: u64) -> usize
     ensures { result ≡ count_after action n }
 {
     if action == NEW {
-        return one_more(n);
+        return DEPTH.min(n + 1);
     }
     if action == CHANGE {
         return n;
@@ -123,11 +115,9 @@ pub(crate) fn apply(rows: [Row; DEPTH], n: usize, e: Entry) -> Applied
     ensures { applied_by result ≡ applied_to e (take n rows) }
 {
     let last = drops_tenth(n, e.action).then_some(rows[LAST]);
-    Applied {
-        rows: rows_after(rows, e),
-        count: count_after(n, e.action),
-        last,
-    }
+    let count = count_after(n, e.action);
+    let rows = rows_after(rows, e);
+    Applied { rows, count, last }
 }
 
 // Whether price a is strictly better than price b.

@@ -32,7 +32,8 @@ fn load_side(block: &[u64; BOOK_WORDS], way: Way) -> [Row; DEPTH]
     std::array::from_fn(|k| row_at(block, base + ROW_WORDS * k))
 }
 
-// How many of a side's ten rows, from the first on, are each strictly better than the next.
+// How many of a side's ten rows, from the first on, are each strictly better than the next. It is drawn in, so that the way is a constant there.
+#[inline(always)]
 fn in_order(block: &[u64; BOOK_WORDS], way: Way) -> u64
     ensures { result ≡ in_order way (rows_from (rows_at way) block.now) }
 {
@@ -47,6 +48,7 @@ fn in_order(block: &[u64; BOOK_WORDS], way: Way) -> u64
 }
 
 // Whether of a side's ten rows those behind the first n are zero, and all price and orders words below 4,294,967,296.
+#[inline(always)]
 fn words_sound(block: &[u64; BOOK_WORDS], way: Way, n: u64) -> bool
     ensures { result ≡ sound_words n (rows_from (rows_at way) block.now) }
 {
@@ -63,6 +65,7 @@ fn words_sound(block: &[u64; BOOK_WORDS], way: Way, n: u64) -> bool
 }
 
 // Whether a side is sound, by how many rows are in order, how many are used, and one OR.
+#[inline(always)]
 fn is_side_sound(block: &[u64; BOOK_WORDS], way: Way) -> bool
     ensures { result ≡ sound_side way (count_in way block.now) (rows_from (rows_at way) block.now) }
 {

@@ -1,11 +1,11 @@
 use Rattle.ladder.proofs.Fits.{applying}
 use Rattle.ladder.proofs.sides.apply.Goals as goal
 
-pub count_after-requires : goal.count_after-requires
-count_after-requires c = search applying
+pub count_after-count-requires : goal.count_after-count-requires
+count_after-count-requires c = search applying
 
-pub rows_after-requires : goal.rows_after-requires
-rows_after-requires c = search applying
+pub rows_after-rows-requires : goal.rows_after-rows-requires
+rows_after-rows-requires c = search applying
 
 pub returns : goal.returns
 returns c = search applying
