@@ -65,6 +65,7 @@ impl Feed {
     }
 
     // The two numbers and a message already cut: never More, never a heartbeat, no bytes used.
+    #[inline(always)]
     #[tactic(auto, using(crate::proofs::Rows::rows))]
     pub fn arrive_cut(
         self,
@@ -86,6 +87,7 @@ impl Feed {
     }
 
     // An arrival of bytes.
+    #[inline(always)]
     #[tactic(auto, using(crate::proofs::Rows::rows))]
     pub fn arrive(self, books: &mut [u64], strips: &mut [u64], bytes: &[u8], time: u64) -> Given
         ensures { ArriveSays self (lent books.old strips.old) bytes.now time result (lent books.new strips.new) }

@@ -72,7 +72,7 @@ impl Feed {
         }
     }
 
-    // The next SeqNum advances, and the message is heard.
+    // The next SeqNum advances, and the message is heard. That it can is asked here and no type's invariant: C makes a feed of any numbers.
     pub(crate) fn advanced(self, time: u64) -> Feed
         requires { self.next ≤ last_seq_num }
         ensures { result ≡ advanced_at time self }

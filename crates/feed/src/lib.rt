@@ -47,7 +47,8 @@ pub(crate) enum Turn {
     Taken,
 }
 
-// What a call hands back: document 01's answer number, the bytes used, the feed after it, and how many rows were dropped.
+// What a call hands back: document 01's answer number, the bytes used, the feed after it, and how many rows were dropped. A number and no Result: specs/ has
+// theorems on it, and C reads it.
 #[derive(Clone, Copy, PartialEq, Eq)]
 pub struct Given {
     pub answer: u64,
