@@ -1,6 +1,5 @@
 pub mod Shift
 pub mod Pads
-pub mod Fills
 pub mod Made
 pub mod Moves
 pub mod Fits

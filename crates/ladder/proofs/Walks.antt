@@ -276,11 +276,6 @@ module _ (time : ℕ) (s : List ℕ) (n : ℕ) (rows₀ : List (List Row)) (coun
       → Padded (side_at e.side rows counts) × (fits (way_of e.side) e (live (side_at e.side rows counts)) ≡ true)
   side_fits u f = (side_padded rows counts e.side p.sides u, f)
 
-  -- at most one more a turn
-  pub count_room : (b : Bool) (k : ℕ) → k ≡ cond b 1 0 → d + k ≤ n
-  count_room true k y = omega (arith, p.few, y)
-  count_room false k y = omega (arith, p.few, y)
-
   pub count_few : e.side ≤ 1 → get_or counts e.side 0 ≤ depth
   count_few u = (side_padded rows counts e.side p.sides u).few
 
