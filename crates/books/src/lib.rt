@@ -20,7 +20,7 @@ ghost use Rattle.books.specs.Code.Rows.{row_read, side_read, side_no, row_of_sid
 ghost use Rattle.books.specs.Promised.{RowSays, SideSays};
 
 use ground::Refusal;
-use ladder::{BOOK_WORDS, BookSides, DEPTH, Row, Way};
+use ladder::{BOOK_WORDS, BookEntries, BookSides, DEPTH, Row, Way};
 use slots::{Layout, MOST, Slot};
 
 // How the table of books is laid out.
@@ -69,17 +69,16 @@ fn sides_in(words: &[u64; BOOK_WORDS], own: bool) -> BookSides
     BookSides::empty()
 }
 
-// A slot's words after n entries: 18 where it is a code's own and its book is not sound.
+// A slot's words after the entries: 18 where it is a code's own and its book is not sound.
 fn in_words(
     words: &mut [u64],
     own: bool,
     code: u64,
-    part: &[u8],
-    n: usize,
+    entries: BookEntries<'_>,
     time: u64,
 ) -> Result<u64, Refusal>
-    requires { (length words.old ≡ book_width) × (entry_size * n ≤ length part.now) }
-    ensures { (landed (answer_of result) words.new ≡ slot_turn books own code (walk time (entries_from n 0 part.now)) words.old) × (dropped_of result ≡ slot_drops own time (entries_from n 0 part.now) words.old) }
+    requires { length words.old ≡ book_width }
+    ensures { (landed (answer_of result) words.new ≡ slot_turn books own code (walk time (entries_from entries.entry.n 0 entries.entry.part.now)) words.old) × (dropped_of result ≡ slot_drops own time (entries_from entries.entry.n 0 entries.entry.part.now) words.old) }
 {
     let Some(words) = words.as_mut_array() else {
         unreachable!()
@@ -88,34 +87,32 @@ fn in_words(
         return Err(Refusal::Unsound);
     }
     let sides = sides_in(words, own);
-    ladder::walk(words, code, sides, part, n, time)
+    ladder::walk(words, code, sides, entries, time)
 }
 
-// One slot of the table after n entries: its 64 words are lent on, and no other word can be reached.
+// One slot of the table after the entries: its 64 words are lent on, and no other word can be reached.
 fn in_slot(
     table: &mut [u64],
     k: usize,
     own: bool,
     code: u64,
-    part: &[u8],
-    n: usize,
+    entries: BookEntries<'_>,
     time: u64,
 ) -> Result<u64, Refusal>
-    requires { (k < count_in books (length table.old)) × (entry_size * n ≤ length part.now) }
-    ensures { (landed (answer_of result) table.new ≡ within books k table.old (slot_turn books own code (walk time (entries_from n 0 part.now)) (block_of k table.old))) × (dropped_of result ≡ slot_drops own time (entries_from n 0 part.now) (block_of k table.old)) }
+    requires { k < count_in books (length table.old) }
+    ensures { (landed (answer_of result) table.new ≡ within books k table.old (slot_turn books own code (walk time (entries_from entries.entry.n 0 entries.entry.part.now)) (block_of k table.old))) × (dropped_of result ≡ slot_drops own time (entries_from entries.entry.n 0 entries.entry.part.now) (block_of k table.old)) }
 {
     let a = BOOK_WORDS * k;
-    in_words(&mut table[a..a + BOOK_WORDS], own, code, part, n, time)
+    in_words(&mut table[a..a + BOOK_WORDS], own, code, entries, time)
 }
 
-// The table after n entries for a code: in the lowest slot with the code, else the lowest free one, else 17.
-fn placed(table: &mut [u64], code: u64, part: &[u8], n: usize, time: u64) -> Result<u64, Refusal>
-    requires { entry_size * n ≤ length part.now }
-    ensures { (landed (answer_of result) table.new ≡ place_turn books (place_in code table.old) code (walk time (entries_from n 0 part.now)) table.old) × (dropped_of result ≡ place_drops (place_in code table.old) time (entries_from n 0 part.now) table.old) }
+// The table after the entries for a code: in the lowest slot with the code, else the lowest free one, else 17.
+fn placed(table: &mut [u64], code: u64, entries: BookEntries<'_>, time: u64) -> Result<u64, Refusal>
+    ensures { (landed (answer_of result) table.new ≡ place_turn books (place_in code table.old) code (walk time (entries_from entries.entry.n 0 entries.entry.part.now)) table.old) × (dropped_of result ≡ place_drops (place_in code table.old) time (entries_from entries.entry.n 0 entries.entry.part.now) table.old) }
 {
     match LAYOUT.find(table, code) {
-        Slot::Held(k) => in_slot(table, k, true, code, part, n, time),
-        Slot::Free(k) => in_slot(table, k, false, code, part, n, time),
+        Slot::Held(k) => in_slot(table, k, true, code, entries, time),
+        Slot::Free(k) => in_slot(table, k, false, code, entries, time),
         Slot::Full => Err(Refusal::Full),
     }
 }
@@ -162,8 +159,7 @@ pub fn is_listed(m: &[u8]) -> bool
     if !wire::is_code(wire::number_in::<4>(m, wire::CODE_AT)) {
         return false;
     }
-    let n = wire::number_in::<1>(m, ladder::NO_ENTRIES_AT) as usize;
-    ladder::all_listed(&m[ladder::ENTRIES_AT..], n)
+    BookEntries::of(m).all_listed()
 }
 
 // Every slot of the table emptied; the words behind the slots stay.
@@ -179,12 +175,12 @@ pub fn take(table: &mut [u64], m: &[u8], time: u64) -> Result<u64, Refusal>
     requires { length m.now ≡ entries_at + entry_size * no_entries m.now }
     ensures { (landed (answer_of result) table.new ≡ book_turn time m.now table.old) × (dropped_of result ≡ rows_dropped time m.now table.old) }
 {
-    let n = wire::number_in::<1>(m, ladder::NO_ENTRIES_AT) as usize;
+    let entries = BookEntries::of(m);
     let code = wire::number_in::<4>(m, wire::CODE_AT);
-    if n == 0 {
+    if entries.n == 0 {
         return emptied(table, code);
     }
-    placed(table, code, &m[ladder::ENTRIES_AT..], n, time)
+    placed(table, code, entries, time)
 }
 
 // The side that is asked for, where code and side are listed.
