@@ -34,7 +34,7 @@ use Rattle.books.specs.declared.Level.{Level}
 use Rattle.std.specs.Prelude.{Result, Ok, Err, MatchResult}
 use Rattle.ground.specs.Refusals.{refusal_no}
 use Rattle.ground.specs.declared.Refusal.{Refusal}
-use Rattle.ground.specs.declared.Refusal.TheVariants.{Unlisted}
+use Rattle.ground.specs.declared.Refusal.TheVariants.{Unlisted, Unsound}
 use Rattle.ladder.specs.Code.Arrays.{way_of}
 use Rattle.ladder.specs.Code.Loading.{count_at, rows_at, count_in}
 use Rattle.ladder.specs.declared.Way.{Way}
@@ -78,7 +78,7 @@ way_price : (way : Way) (w : List ℕ) (rank : ℕ) → sound w ≡ true → 1 �
 way_price Bid w rank y low high h = subst (λ (r : Row). r.price < word32) (row_is bids_at w (rank - 1) (omega arith)) (bid_bounds w y (rank - 1) (omega arith)).0
 way_price Offer w rank y low high h = subst (λ (r : Row). r.price < word32) (row_is offers_at w (rank - 1) (omega arith)) (offer_bounds w y (rank - 1) (omega arith)).0
 
-module _ (way : Way) (w : List ℕ) (rank at base : ℕ) (r : Row) (ask : (sound w ≡ true) × (1 ≤ rank) × (rank ≤ depth)) (ea : at ≡ count_at way) (h : rank ≤ get_or w at 0)
+module _ (way : Way) (w : List ℕ) (rank at base : ℕ) (r : Row) (y : sound w ≡ true) (ask : (1 ≤ rank) × (rank ≤ depth)) (ea : at ≡ count_at way) (h : rank ≤ get_or w at 0)
     (eb : base ≡ rows_at way) (e : r ≡ row_of (drop (base + row_width * (rank - 1)) w)) where
   rank_in : rank ≤ count_in way w
   rank_in = subst (λ (k : ℕ). rank ≤ get_or w k 0) ea h
@@ -87,21 +87,21 @@ module _ (way : Way) (w : List ℕ) (rank at base : ℕ) (r : Row) (ask : (sound
   row_in = e ∙ ap (λ (b : ℕ). row_of (drop (b + row_width * (rank - 1)) w)) eb
 
   pub row_bound : r.price < word32
-  row_bound = subst (λ (x : Row). x.price < word32) (sym row_in) (way_price way w rank ask.0 ask.1 ask.2 rank_in)
+  row_bound = subst (λ (x : Row). x.price < word32) (sym row_in) (way_price way w rank y ask.0 ask.1 rank_in)
 
   pub row_shown_lem : (l : Level) → l ≡ level_of (row_shown r) → row_read (Ok l) ≡ row_of_side (rows_at way) (count_in way w) rank w
   unfolding row_of_side
   row_shown_lem l q = rw (q, row_in, le-ltb (count_in way w) rank rank_in)
 
 -- a row of a book
-pub book_row : (way : Way) (t : Bool) (w : List ℕ) (rank : ℕ) (x : RowRead) → t ≡ sound w → t ≡ true → x ≡ row_of_side (rows_at way) (count_in way w) rank w → x ≡ row_of_book (side_no way) rank w
+book_row : (way : Way) (w : List ℕ) (rank : ℕ) → sound w ≡ true → row_of_side (rows_at way) (count_in way w) rank w ≡ row_of_book (side_no way) rank w
 unfolding row_of_book
-book_row Bid t w rank x e y h = h ∙ rw (sym e ∙ y)
-book_row Offer t w rank x e y h = h ∙ rw (sym e ∙ y)
+book_row Bid w rank y = rw y
+book_row Offer w rank y = rw y
 
-pub book_unsound : (t : Bool) (w : List ℕ) (side rank : ℕ) → t ≡ sound w → t ≡ false → row_refused 18 ≡ row_of_book side rank w
+book_unsound : (w : List ℕ) (side rank : ℕ) → sound w ≡ false → row_refused 18 ≡ row_of_book side rank w
 unfolding row_of_book
-book_unsound t w side rank e n = rw (sym e ∙ n)
+book_unsound w side rank n = rw n
 
 -- a row of the table
 pub read_unasked : (c side rank : ℕ) (t : List ℕ) (a : Bool) (x : RowRead) → a ≡ asked c side rank → a ≡ false → x ≡ row_refused 15 → x ≡ read_row c side rank t
@@ -159,12 +159,20 @@ rank_is rank e =
 pub rank_within : (rank : ℕ) (b : Bool) → b ≡ listed_rank rank → b ≡ true → (1 ≤ rank) × (rank ≤ depth)
 rank_within rank b e y = rank_is rank (sym e ∙ y)
 
-pub read_held : (c side rank k : ℕ) (t w : List ℕ) (b : Bool) (f : Slot) (way : Way) (x : RowRead) → (side_asked c side ≡ true) × (side ≡ side_no way) → b ≡ listed_rank rank → b ≡ true
-    → f ≡ place_in c t → f ≡ Held k → w ≡ block k t → x ≡ row_of_book (side_no way) rank w → x ≡ read_row c side rank t
-read_held c side rank k t w b f way x a e y ef h ew q =
-    let r = rank_is rank (sym e ∙ y) in
-    q ∙ ap (row_of_book (side_no way) rank) ew ∙ ap (λ (n : ℕ). row_of_book n rank (block k t)) (sym a.1)
-    ∙ sym (held_row c side rank k t (rw (a.0, sym e ∙ y)) r.0 r.1 (sym ef ∙ h) (sound (block k t)) refl (eqb side 0) refl)
+-- of a code's own book
+module _ (c side rank k : ℕ) (t w : List ℕ) (b : Bool) (f : Slot) (way : Way) (a : (side_asked c side ≡ true) × (side ≡ side_no way)) (e : b ≡ listed_rank rank) (y : b ≡ true)
+    (ef : f ≡ place_in c t) (h : f ≡ Held k) (ew : w ≡ block k t) where
+  row_held : row_of_book (side_no way) rank w ≡ read_row c side rank t
+  row_held =
+      let r = rank_is rank (sym e ∙ y) in
+      ap (row_of_book (side_no way) rank) ew ∙ ap (λ (n : ℕ). row_of_book n rank (block k t)) (sym a.1)
+      ∙ sym (held_row c side rank k t (rw (a.0, sym e ∙ y)) r.0 r.1 (sym ef ∙ h) (sound (block k t)) refl (eqb side 0) refl)
+
+  pub read_held : (v : List ℕ) (x : RowRead) → sound v ≡ true → v ≡ w → x ≡ row_of_side (rows_at way) (count_in way v) rank v → x ≡ read_row c side rank t
+  read_held v x s ev q = q ∙ book_row way v rank s ∙ ap (row_of_book (side_no way) rank) ev ∙ row_held
+
+  pub read_unsound : (u : Refusal) → (sound w ≡ false) × (u ≡ Unsound) → row_refused (refusal_no u) ≡ read_row c side rank t
+  read_unsound u n = rw n.1 (book_unsound w (side_no way) rank n.0 ∙ row_held)
 
 pub ruleset showing = (
   turning,
@@ -173,11 +181,8 @@ pub ruleset showing = (
   no_such,
   row_bound,
   row_shown_lem,
-  book_row,
-  book_unsound,
   unlisted_side,
   unlisted_rank,
   read_none,
   rank_within,
-  read_held,
 )

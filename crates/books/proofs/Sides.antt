@@ -25,7 +25,7 @@ use Rattle.std.specs.Prelude.{Result, Ok, Err}
 use Rattle.std.specs.Result.{result_unwrap_or}
 use Rattle.ground.specs.Refusals.{refusal_no}
 use Rattle.ground.specs.declared.Refusal.{Refusal}
-use Rattle.ground.specs.declared.Refusal.TheVariants.{Unlisted}
+use Rattle.ground.specs.declared.Refusal.TheVariants.{Unlisted, Unsound}
 use Rattle.ladder.specs.Code.Loading.{count_at, rows_at, count_in}
 use Rattle.ladder.specs.declared.Way.{Way}
 use Rattle.ladder.specs.declared.Way.TheVariants.{Bid, Offer}
@@ -100,14 +100,14 @@ unfolding side_of_words side_by
 side_whole way w at rows y e h = rw (e, h, count_is (rows_at way) (count_in way w) w (way_few way w y))
 
 -- a side of a book
-pub book_side : (way : Way) (t : Bool) (w : List ℕ) (x : SideRead) → t ≡ sound w → t ≡ true → x ≡ side_of_words (rows_at way) (count_in way w) w → x ≡ side_of_book (side_no way) w
+book_side : (way : Way) (w : List ℕ) → sound w ≡ true → side_of_words (rows_at way) (count_in way w) w ≡ side_of_book (side_no way) w
 unfolding side_of_book
-book_side Bid t w x e y h = h ∙ rw (sym e ∙ y)
-book_side Offer t w x e y h = h ∙ rw (sym e ∙ y)
+book_side Bid w y = rw y
+book_side Offer w y = rw y
 
-pub side_unsound : (t : Bool) (w : List ℕ) (side : ℕ) → t ≡ sound w → t ≡ false → side_refused 18 ≡ side_of_book side w
+side_unsound : (w : List ℕ) (side : ℕ) → sound w ≡ false → side_refused 18 ≡ side_of_book side w
 unfolding side_of_book
-side_unsound t w side e n = rw (sym e ∙ n)
+side_unsound w side n = rw n
 
 -- a side of the table: refused where every single read is
 ten_refused : (a : ℕ) → eqb a 0 ≡ false → side_refused a ≡ side_by a (reads_from (λ r. row_refused a) depth 1)
@@ -158,16 +158,23 @@ module _ (c side k : ℕ) (t : List ℕ) (a : side_asked c side ≡ true) (e : p
   held_side : (y : Bool) → sound (block k t) ≡ y → read_side c side t ≡ side_of_book side (block k t)
   unfolding read_side side_answer no_book table.unsound_at first
   held_side false ey =
-      sym (all_refused c side 18 t refl (rw (a, e, ey)) (λ rank l h. single rank l h ∙ unsound_row ey rank)) ∙ side_unsound false (block k t) side (sym ey) refl
+      sym (all_refused c side 18 t refl (rw (a, e, ey)) (λ rank l h. single rank l h ∙ unsound_row ey rank)) ∙ side_unsound (block k t) side ey
   held_side true ey =
       let same = reads_same (λ r. read_row c side r t) (λ r. row_of_book side r (block k t)) depth 1 (λ rank l h. single rank l (omega arith)) in
       rw (a, e, ey, same) (sound_side_lem ey (eqb side 0) refl)
 
-pub side_held : (c side k : ℕ) (t w : List ℕ) (f : Slot) (way : Way) (x : SideRead) → (side_asked c side ≡ true) × (side ≡ side_no way) → f ≡ place_in c t → f ≡ Held k
-    → w ≡ block k t → x ≡ side_of_book (side_no way) w → x ≡ read_side c side t
-side_held c side k t w f way x a ef h ew q =
-    q ∙ ap (side_of_book (side_no way)) ew ∙ ap (λ (n : ℕ). side_of_book n (block k t)) (sym a.1)
-    ∙ sym (held_side c side k t a.0 (sym ef ∙ h) (sound (block k t)) refl)
+-- of a code's own book
+module _ (c side k : ℕ) (t w : List ℕ) (f : Slot) (way : Way) (a : (side_asked c side ≡ true) × (side ≡ side_no way)) (ef : f ≡ place_in c t) (h : f ≡ Held k) (ew : w ≡ block k t) where
+  whole_held : side_of_book (side_no way) w ≡ read_side c side t
+  whole_held =
+      ap (side_of_book (side_no way)) ew ∙ ap (λ (n : ℕ). side_of_book n (block k t)) (sym a.1)
+      ∙ sym (held_side c side k t a.0 (sym ef ∙ h) (sound (block k t)) refl)
+
+  pub side_held : (v : List ℕ) (x : SideRead) → sound v ≡ true → v ≡ w → x ≡ side_of_words (rows_at way) (count_in way v) v → x ≡ read_side c side t
+  side_held v x s ev q = q ∙ book_side way v s ∙ ap (side_of_book (side_no way)) ev ∙ whole_held
+
+  pub held_unsound : (u : Refusal) → (sound w ≡ false) × (u ≡ Unsound) → side_refused (refusal_no u) ≡ read_side c side t
+  held_unsound u n = rw n.1 (side_unsound w (side_no way) n.0 ∙ whole_held)
 
 not-true : (b : Bool) → not b ≡ true → b ≡ false
 not-true false e = refl
@@ -233,4 +240,4 @@ level_is c side t rank l h =
     get_or-map level_of (reads_from (λ r. read_row c side r t) depth 1) (rank - 1) (row_refused 0)
     ∙ ap level_of (reads_at (λ r. read_row c side r t) depth 1 (rank - 1) (row_refused 0) (omega arith) ∙ ap (λ (r : ℕ). read_row c side r t) (omega arith))
 
-pub ruleset siding = (showing, level_shown, side_whole, book_side, side_unsound, side_unasked, side_none, side_held)
+pub ruleset siding = (showing, level_shown, side_whole, side_unasked, side_none)

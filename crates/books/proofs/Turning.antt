@@ -1,13 +1,12 @@
 -- What the code of a book message comes to, return by return (specs/Turns, specs/Table). Assumes nothing.
-use Prim.Native.Nat.{ℕ, ◌+◌, ◌-◌, ◌*◌, ◌≤◌, ◌<◌}
+use Prim.Native.Nat.{ℕ, ◌+◌, ◌-◌, ◌*◌, ◌<◌}
 use native.Mathlib.Omega.{arith}
 use mathlib.Core.Path.{◌≡◌, refl, sym, ap, ◌∙◌}
 use mathlib.Core.Bool.{Bool, true, false, cond, not}
 use mathlib.Core.List.{List, [], ◌∷◌}
 use mathlib.Core.Option.{Option, none, some}
-use lib.ListN.{length, take, drop, get_or, length-drop}
+use lib.ListN.{length, take, drop, get_or}
 use lib.Dec.{eqb}
-use lib.Seq.{take_all}
 use borrow.Author.Rules.{rules}
 use borrow.Author.Tests.{lt-ltb, le-ltb}
 use borrow.Rule.Slice.PartMut.{put_mid}
@@ -35,13 +34,6 @@ use Rattle.ladder.proofs.Tells.{sides_padded}
 use Rattle.books.specs.Table.{books, place_in, block, step_of, book_at, misfit, unsound_at, none_free, unsound, no_slot, misfits, book_answer, books_after, rows_dropped}
 use Rattle.books.specs.Code.Turns.{start_rows, start_counts, empties, book_turn, slot_drops, place_drops}
 use Rattle.books.proofs.Frames.{no_slot_lem}
-
-pub long_part : (m : List ℕ) → 12 ≤ length m → take (length m - 12) (drop 12 m) ≡ drop 12 m
-long_part m h = take_all (length m - 12) (drop 12 m) (rw length-drop (omega arith))
-
--- how much the entries of a message of the right size take
-pub part_room : (m : List ℕ) (k : ℕ) → length m ≡ 12 + 24 * no_entries m → k ≡ field 11 1 m → 24 * k ≤ length (drop 12 m)
-part_room m k h e = rw length-drop (omega (arith, h, e))
 
 -- a code's own slot
 pub own_ready : (own b : Bool) (w : List ℕ) → own ≡ true → b ≡ sound w → b ≡ ready books own w
@@ -145,10 +137,6 @@ table_turn : (time : ℕ) (m t : List ℕ) → turn books (step_of time m) t ≡
 unfolding book_answer books_after unsound no_slot misfits answer
 table_turn time m t = refl
 
--- the part of a message from byte 12 on, as it is lent on
-abbrev part_of : List ℕ → List ℕ
-part_of m = take (length m - 12) (drop 12 m)
-
 -- a book message is listed where its code is and all its entries are
 module _ (m : List ℕ) (c : ℕ) (a : Bool) (ec : c ≡ field 4 4 m) (ea : a ≡ listed_code c) where
   pub bad_code : a ≡ false → false ≡ listed_book m
@@ -157,9 +145,9 @@ module _ (m : List ℕ) (c : ℕ) (a : Bool) (ec : c ≡ field 4 4 m) (ea : a �
       let f : listed_code (field 4 4 m) ≡ false = ap listed_code (sym ec) ∙ sym ea ∙ n in
       rw f
 
-  pub good_code : (k : ℕ) (b : Bool) → a ≡ true → k ≡ field 11 1 m → length m ≡ 12 + 24 * no_entries m → b ≡ all listed_entry (entries_from k 0 (part_of m)) → b ≡ listed_book m
+  pub good_code : (part : List ℕ) (k : ℕ) (b : Bool) → a ≡ true → k ≡ field 11 1 m → part ≡ drop 12 m → b ≡ all listed_entry (entries_from k 0 part) → b ≡ listed_book m
   unfolding listed_book
-  good_code k b y ek h eb = rw (← ek, ← ec, ← long_part m (omega (arith, h)), ← ea, y) eb
+  good_code part k b y ek ep eb = rw (← ek, ← ec, ← ep, ← ea, y) eb
 
 -- with no entries, and with some
 module _ (time : ℕ) (m t : List ℕ) (k c r : ℕ) (u : List ℕ) (ek : k ≡ field 11 1 m) (ec : c ≡ field 4 4 m) where
@@ -173,12 +161,12 @@ module _ (time : ℕ) (m t : List ℕ) (k c r : ℕ) (u : List ℕ) (ek : k ≡ 
       let makes : book_after time m ≡ empties = ap makes_by none in
       q ∙ rw (ec, ← makes) (held_is books (step_of time m) t (no_slot_lem time m) none) ∙ table_turn time m t
 
-  pub placed_turn : length m ≡ 12 + 24 * no_entries m → landed r u ≡ place_turn books (place_in c t) c (walk time (entries_from k 0 (part_of m))) t
+  pub placed_turn : (part : List ℕ) → part ≡ drop 12 m → landed r u ≡ place_turn books (place_in c t) c (walk time (entries_from k 0 part)) t
       → (k ≡ 0 → ⊥) → landed r u ≡ book_turn time m t
-  placed_turn h q nz =
+  placed_turn part ep q nz =
       let more : has_entries m ≡ true = lt-ltb 0 (no_entries m) (omega (arith, ek, nz)) in
       let makes : book_after time m ≡ walk time (entries m) = ap makes_by more in
-      (rw (ec, ek, long_part m (omega (arith, h))) at q) ∙ rw (← makes) (turn_is books (step_of time m) t more) ∙ table_turn time m t
+      (rw (ec, ek, ep) at q) ∙ rw (← makes) (turn_is books (step_of time m) t more) ∙ table_turn time m t
 
   pub emptied_drops : (d : ℕ) → d ≡ 0 → k ≡ 0 → d ≡ rows_dropped time m t
   unfolding rows_dropped
@@ -186,17 +174,15 @@ module _ (time : ℕ) (m t : List ℕ) (k c r : ℕ) (u : List ℕ) (ek : k ≡ 
       let none : has_entries m ≡ false = le-ltb 0 (no_entries m) (omega (arith, ek, z)) in
       y ∙ rw none (sym (cond_same (eqb (book_answer time m t) 0) 0))
 
-  pub placed_drops : (d : ℕ) → length m ≡ 12 + 24 * no_entries m → d ≡ place_drops (place_in c t) time (entries_from k 0 (part_of m)) t → (k ≡ 0 → ⊥) → d ≡ rows_dropped time m t
+  pub placed_drops : (part : List ℕ) (d : ℕ) → part ≡ drop 12 m → d ≡ place_drops (place_in c t) time (entries_from k 0 part) t → (k ≡ 0 → ⊥) → d ≡ rows_dropped time m t
   unfolding rows_dropped book_answer unsound no_slot misfits
-  placed_drops d h q nz =
+  placed_drops part d ep q nz =
       let more : has_entries m ≡ true = lt-ltb 0 (no_entries m) (omega (arith, ek, nz)) in
-      (rw (ec, ek, long_part m (omega (arith, h))) at q) ∙ drops_at (place_in (security_code m) t) time (entries m) t ∙ rw more
+      (rw (ec, ek, ep) at q) ∙ drops_at (place_in (security_code m) t) time (entries m) t ∙ rw more
 
 pub ruleset turning = (
   rules,
   slotting,
-  long_part,
-  part_room,
   own_ready,
   own_rows,
   own_counts,

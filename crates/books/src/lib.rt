@@ -3,7 +3,7 @@
 
 ghost use Rattle.std.specs.Prelude.{◌≡◌, true, false, ◌&&◌, ◌+◌, ◌-◌, ◌*◌, ◌<◌, ◌≤◌, length, MatchResult};
 ghost use Rattle.ground.specs.Refusals.{answer_of};
-ghost use Rattle.ground.specs.declared.Refusal.TheVariants.{Unlisted};
+ghost use Rattle.ground.specs.declared.Refusal.TheVariants.{Unlisted, Unsound};
 ghost use Rattle.slots.specs.Layout.{landed, count_in, cleared_in};
 ghost use Rattle.slots.specs.Code.Turns.{ready, slot_turn, within, place_turn, held_turn};
 ghost use Rattle.wire.specs.Codes.{listed_code};
@@ -16,11 +16,11 @@ ghost use Rattle.wire.specs.Number.{word32};
 ghost use Rattle.books.specs.Table.{books, place_in, block as block_of, rows_dropped};
 ghost use Rattle.books.specs.Code.Turns.{start_rows, start_counts, empties, book_turn, slot_drops, place_drops};
 ghost use Rattle.books.specs.Reading.{row_shown, level_of};
-ghost use Rattle.books.specs.Code.Rows.{row_read, side_read, side_no, row_of_side, row_of_book, side_of_words, side_of_book};
+ghost use Rattle.books.specs.Code.Rows.{row_read, side_read, side_no, row_of_side, side_of_words};
 ghost use Rattle.books.specs.Promised.{RowSays, SideSays};
 
 use ground::Refusal;
-use ladder::{BOOK_WORDS, BookSides, DEPTH, Row, Way};
+use ladder::{BOOK_WORDS, BookEntries, BookSides, DEPTH, Row, Way};
 use slots::{Layout, MOST, Slot};
 
 // How the table of books is laid out.
@@ -69,17 +69,16 @@ fn sides_in(words: &[u64; BOOK_WORDS], own: bool) -> BookSides
     BookSides::empty()
 }
 
-// A slot's words after n entries: 18 where it is a code's own and its book is not sound.
+// A slot's words after the entries: 18 where it is a code's own and its book is not sound.
 fn in_words(
     words: &mut [u64],
     own: bool,
     code: u64,
-    part: &[u8],
-    n: usize,
+    entries: BookEntries<'_>,
     time: u64,
 ) -> Result<u64, Refusal>
-    requires { (length words.old ≡ book_width) × (entry_size * n ≤ length part.now) }
-    ensures { (landed (answer_of result) words.new ≡ slot_turn books own code (walk time (entries_from n 0 part.now)) words.old) × (dropped_of result ≡ slot_drops own time (entries_from n 0 part.now) words.old) }
+    requires { length words.old ≡ book_width }
+    ensures { (landed (answer_of result) words.new ≡ slot_turn books own code (walk time (entries_from entries.entry.n 0 entries.entry.part.now)) words.old) × (dropped_of result ≡ slot_drops own time (entries_from entries.entry.n 0 entries.entry.part.now) words.old) }
 {
     let Some(words) = words.as_mut_array() else {
         unreachable!()
@@ -88,34 +87,32 @@ fn in_words(
         return Err(Refusal::Unsound);
     }
     let sides = sides_in(words, own);
-    ladder::walk(words, code, sides, part, n, time)
+    ladder::walk(words, code, sides, entries, time)
 }
 
-// One slot of the table after n entries: its 64 words are lent on, and no other word can be reached.
+// One slot of the table after the entries: its 64 words are lent on, and no other word can be reached.
 fn in_slot(
     table: &mut [u64],
     k: usize,
     own: bool,
     code: u64,
-    part: &[u8],
-    n: usize,
+    entries: BookEntries<'_>,
     time: u64,
 ) -> Result<u64, Refusal>
-    requires { (k < count_in books (length table.old)) × (entry_size * n ≤ length part.now) }
-    ensures { (landed (answer_of result) table.new ≡ within books k table.old (slot_turn books own code (walk time (entries_from n 0 part.now)) (block_of k table.old))) × (dropped_of result ≡ slot_drops own time (entries_from n 0 part.now) (block_of k table.old)) }
+    requires { k < count_in books (length table.old) }
+    ensures { (landed (answer_of result) table.new ≡ within books k table.old (slot_turn books own code (walk time (entries_from entries.entry.n 0 entries.entry.part.now)) (block_of k table.old))) × (dropped_of result ≡ slot_drops own time (entries_from entries.entry.n 0 entries.entry.part.now) (block_of k table.old)) }
 {
     let a = BOOK_WORDS * k;
-    in_words(&mut table[a..a + BOOK_WORDS], own, code, part, n, time)
+    in_words(&mut table[a..a + BOOK_WORDS], own, code, entries, time)
 }
 
-// The table after n entries for a code: in the lowest slot with the code, else the lowest free one, else 17.
-fn placed(table: &mut [u64], code: u64, part: &[u8], n: usize, time: u64) -> Result<u64, Refusal>
-    requires { entry_size * n ≤ length part.now }
-    ensures { (landed (answer_of result) table.new ≡ place_turn books (place_in code table.old) code (walk time (entries_from n 0 part.now)) table.old) × (dropped_of result ≡ place_drops (place_in code table.old) time (entries_from n 0 part.now) table.old) }
+// The table after the entries for a code: in the lowest slot with the code, else the lowest free one, else 17.
+fn placed(table: &mut [u64], code: u64, entries: BookEntries<'_>, time: u64) -> Result<u64, Refusal>
+    ensures { (landed (answer_of result) table.new ≡ place_turn books (place_in code table.old) code (walk time (entries_from entries.entry.n 0 entries.entry.part.now)) table.old) × (dropped_of result ≡ place_drops (place_in code table.old) time (entries_from entries.entry.n 0 entries.entry.part.now) table.old) }
 {
     match LAYOUT.find(table, code) {
-        Slot::Held(k) => in_slot(table, k, true, code, part, n, time),
-        Slot::Free(k) => in_slot(table, k, false, code, part, n, time),
+        Slot::Held(k) => in_slot(table, k, true, code, entries, time),
+        Slot::Free(k) => in_slot(table, k, false, code, entries, time),
         Slot::Full => Err(Refusal::Full),
     }
 }
@@ -162,8 +159,7 @@ pub fn is_listed(m: &[u8]) -> bool
     if !wire::is_code(wire::number_in::<4>(m, wire::CODE_AT)) {
         return false;
     }
-    let n = wire::number_in::<1>(m, ladder::NO_ENTRIES_AT) as usize;
-    ladder::all_listed(&m[ladder::ENTRIES_AT..], n)
+    BookEntries::of(m).all_listed()
 }
 
 // Every slot of the table emptied; the words behind the slots stay.
@@ -179,12 +175,12 @@ pub fn take(table: &mut [u64], m: &[u8], time: u64) -> Result<u64, Refusal>
     requires { length m.now ≡ entries_at + entry_size * no_entries m.now }
     ensures { (landed (answer_of result) table.new ≡ book_turn time m.now table.old) × (dropped_of result ≡ rows_dropped time m.now table.old) }
 {
-    let n = wire::number_in::<1>(m, ladder::NO_ENTRIES_AT) as usize;
+    let entries = BookEntries::of(m);
     let code = wire::number_in::<4>(m, wire::CODE_AT);
-    if n == 0 {
+    if entries.n == 0 {
         return emptied(table, code);
     }
-    placed(table, code, &m[ladder::ENTRIES_AT..], n, time)
+    placed(table, code, entries, time)
 }
 
 // The side that is asked for, where code and side are listed.
@@ -217,31 +213,62 @@ fn level_of(row: Row) -> Level
     }
 }
 
-// A row of a side of a sound book: 4 where there is no such row.
-fn row_of_side(words: &[u64; BOOK_WORDS], way: Way, rank: u64) -> Result<Level, Refusal>
-    requires { (sound words.now ≡ true) × (1 ≤ rank) × (rank ≤ depth) }
-    ensures { row_read result ≡ row_of_side (rows_at way) (rows_used way words.now) rank words.now }
-{
-    if words[way.count_at()] < rank {
-        return Err(Refusal::Missing);
-    }
-    let place = (rank - 1) as usize;
-    let row = ladder::row_at(words, way.rows_at() + ladder::ROW_WORDS * place);
-    Ok(level_of(row))
+// A slot's words with a sound book in them, and what is read out of it.
+#[derive(Clone, Copy)]
+struct Sound<'a> {
+    words: &'a [u64; BOOK_WORDS],
+    ghost right: { sound words.now ≡ true },
 }
 
-// A row of the book in a slot's words: 18 where the book is not sound.
-fn row_of_book(words: &[u64; BOOK_WORDS], way: Way, rank: u64) -> Result<Level, Refusal>
-    requires { (1 ≤ rank) × (rank ≤ depth) }
-    ensures { row_read result ≡ row_of_book (side_no way) rank words.now }
-{
-    if ladder::is_sound(words) {
-        return row_of_side(words, way, rank);
+impl<'a> Sound<'a> {
+    // The words of a slot: 18 where the book in them is not sound.
+    fn read(words: &'a [u64; BOOK_WORDS]) -> Result<Sound<'a>, Refusal>
+        ensures { MatchResult result (λ book. book.words.now ≡ words.now) (λ e. (sound words.now ≡ false) × (e ≡ Unsound)) }
+    {
+        if ladder::is_sound(words) {
+            Ok(Sound { words })
+        } else {
+            Err(Refusal::Unsound)
+        }
     }
-    Err(Refusal::Unsound)
+
+    // A row of a side: 4 where there is no such row.
+    #[tactic(auto, using(crate::proofs::Showing::showing))]
+    fn row(self, way: Way, rank: u64) -> Result<Level, Refusal>
+        requires { (1 ≤ rank) × (rank ≤ depth) }
+        ensures { row_read result ≡ row_of_side (rows_at way) (rows_used way self.entry.words.now) rank self.entry.words.now }
+    {
+        let words = self.words;
+        if words[way.count_at()] < rank {
+            return Err(Refusal::Missing);
+        }
+        let place = (rank - 1) as usize;
+        let row = ladder::row_at(words, way.rows_at() + ladder::ROW_WORDS * place);
+        Ok(level_of(row))
+    }
+
+    // A row of a side, zeros where there is no such row.
+    #[tactic(auto, using(crate::proofs::Sides::siding))]
+    fn level(self, way: Way, rank: u64) -> Level
+        requires { (1 ≤ rank) × (rank ≤ depth) }
+        ensures { result ≡ level_of (row_of_side (rows_at way) (rows_used way self.entry.words.now) rank self.entry.words.now) }
+    {
+        self.row(way, rank).unwrap_or(NO_LEVEL)
+    }
+
+    // The rows of a side.
+    fn side(self, way: Way) -> Side
+        ensures { side_read (Ok result) ≡ side_of_words (rows_at way) (rows_used way self.entry.words.now) self.entry.words.now }
+    {
+        Side {
+            count: self.words[way.count_at()],
+            rows: std::array::from_fn(|k| self.level(way, k as u64 + 1)),
+        }
+    }
 }
 
 // A row by code, side and rank: 15, 4, 18, 4 or 0, in that order. It writes nothing.
+#[tactic(auto, using(crate::proofs::Showing::showing))]
 pub fn read_row(table: &[u64], code: u64, side: u64, rank: u64) -> Result<Level, Refusal>
     ensures { RowSays table.now code side rank (row_read result) }
 {
@@ -250,47 +277,19 @@ pub fn read_row(table: &[u64], code: u64, side: u64, rank: u64) -> Result<Level,
         return Err(Refusal::Unlisted);
     }
     match LAYOUT.find(table, code) {
-        Slot::Held(k) => row_of_book(slots::words_in(table, k), way, rank),
+        Slot::Held(k) => Sound::read(slots::words_in(table, k))?.row(way, rank),
         _ => Err(Refusal::Missing),
     }
 }
 
-// A row of a side of a sound book, zeros where there is no such row.
-fn level_at(words: &[u64; BOOK_WORDS], way: Way, rank: u64) -> Level
-    requires { (sound words.now ≡ true) × (1 ≤ rank) × (rank ≤ depth) }
-    ensures { result ≡ level_of (row_of_side (rows_at way) (rows_used way words.now) rank words.now) }
-{
-    row_of_side(words, way, rank).unwrap_or(NO_LEVEL)
-}
-
-// The rows of a side of a sound book.
-fn rows_of_side(words: &[u64; BOOK_WORDS], way: Way) -> Side
-    requires { sound words.now ≡ true }
-    ensures { side_read (Ok result) ≡ side_of_words (rows_at way) (rows_used way words.now) words.now }
-{
-    Side {
-        count: words[way.count_at()],
-        rows: std::array::from_fn(|k| level_at(words, way, k as u64 + 1)),
-    }
-}
-
-// The rows of a side of the book in a slot's words: 18 where the book is not sound.
-fn side_of_book(words: &[u64; BOOK_WORDS], way: Way) -> Result<Side, Refusal>
-    ensures { side_read result ≡ side_of_book (side_no way) words.now }
-{
-    if !ladder::is_sound(words) {
-        return Err(Refusal::Unsound);
-    }
-    Ok(rows_of_side(words, way))
-}
-
 // The rows of a side at once, by code and side: 15, 4, 18 or 0, in that order. It writes nothing.
+#[tactic(auto, using(crate::proofs::Sides::siding))]
 pub fn read_side(table: &[u64], code: u64, side: u64) -> Result<Side, Refusal>
     ensures { SideSays table.now code side (side_read result) }
 {
     let way = asked(code, side)?;
     match LAYOUT.find(table, code) {
-        Slot::Held(k) => side_of_book(slots::words_in(table, k), way),
+        Slot::Held(k) => Ok(Sound::read(slots::words_in(table, k))?.side(way)),
         _ => Err(Refusal::Missing),
     }
 }

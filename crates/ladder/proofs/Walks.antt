@@ -170,13 +170,13 @@ pub record Walking (time : ℕ) (s : List ℕ) (n : ℕ) (rows₀ : List (List R
   pub few : d ≤ i
   pub tally : d + dropped time (rest n i s) (as_book rows counts) ≡ dropped time (entries_from n 0 s) (as_book rows₀ counts₀)
 
-pub walk_starts : (time : ℕ) (s : List ℕ) (n : ℕ) (rows : List (List Row)) (counts : List ℕ) → Sides rows counts × (entry_size * n ≤ length s)
+pub walk_starts : (time : ℕ) (s : List ℕ) (n : ℕ) (rows : List (List Row)) (counts : List ℕ) → Sides rows counts → entry_size * n ≤ length s
     → length rows ≡ 2 → length counts ≡ 2 → Walking time s n rows counts rows counts 0 0
-walk_starts time s n rows counts p r c = record {
+walk_starts time s n rows counts p q r c = record {
   upto = omega arith;
-  room = p.1;
+  room = q;
   two = (r, c);
-  sides = p.0;
+  sides = p;
   same = ap (λ (es : List Entry). walk time es (as_book rows counts)) (rest_all n s);
   few = omega arith;
   tally = omega (arith, ap (λ (es : List Entry). dropped time es (as_book rows counts)) (rest_all n s));

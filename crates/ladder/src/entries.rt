@@ -1,10 +1,12 @@
 // The entries of a book message in its bytes, and whether they are listed (document 01, "One unit").
-ghost use Rattle.std.specs.Prelude.{◌≡◌, ◌+◌, ◌*◌, ◌≤◌, ◌<◌, true, length};
-ghost use Rattle.ladder.specs.Message.{depth, listed_rank, entry_size, entry_of, entry_at, entries_from, listed_entry};
+ghost use Rattle.std.specs.Prelude.{◌≡◌, ◌+◌, ◌*◌, ◌≤◌, ◌<◌, true, length, drop};
+ghost use Rattle.ladder.specs.Message.{depth, listed_rank, no_entries, entries_at, entry_size, entry_of, entry_at, entries_from, listed_entry};
 ghost use Rattle.wire.specs.Number.{word32};
 ghost use Rattle.ground.specs.Choice.{all};
 
-use super::{CLEAR, DELETE, DEPTH, ENTRY_BYTES, Entry, OFFER, Row};
+use super::{
+    BookEntries, CLEAR, DELETE, DEPTH, ENTRIES_AT, ENTRY_BYTES, Entry, NO_ENTRIES_AT, OFFER, Row,
+};
 
 // The entry in the 24 bytes from `at` on, all of them there.
 pub(crate) fn entry_at(part: &[u8], at: usize) -> Entry
@@ -40,10 +42,22 @@ fn is_listed(e: Entry) -> bool
     e.action == CLEAR || (e.action <= DELETE && e.side <= OFFER && is_rank(e.level))
 }
 
-// Whether all of n entries are listed.
-pub fn all_listed(part: &[u8], n: usize) -> bool
-    requires { entry_size * n ≤ length part.now }
-    ensures { result ≡ all listed_entry (entries_from n 0 part.now) }
-{
-    (0..n).all(|i| is_listed(entry_at(part, ENTRY_BYTES * i)))
+impl<'a> BookEntries<'a> {
+    // Those of a message of the right size.
+    pub fn of(m: &'a [u8]) -> BookEntries<'a>
+        requires { length m.now ≡ entries_at + entry_size * no_entries m.now }
+        ensures { (result.n ≡ no_entries m.now) × (result.part.now ≡ drop entries_at m.now) }
+    {
+        let n = wire::number_in::<1>(m, NO_ENTRIES_AT) as usize;
+        let part = &m[ENTRIES_AT..];
+        BookEntries { part, n }
+    }
+
+    // Whether all of them are listed.
+    pub fn all_listed(self) -> bool
+        ensures { result ≡ all listed_entry (entries_from self.entry.n 0 self.entry.part.now) }
+    {
+        let BookEntries { part, n } = self;
+        (0..n).all(|i| is_listed(entry_at(part, ENTRY_BYTES * i)))
+    }
 }

@@ -1,8 +1,9 @@
 // One book: rows, two sides, the entries of a book message (document 01, "One unit", "The book table", "Entries, against a side of n rows").
 #![tactic(auto)]
 
-ghost use Rattle.std.specs.Prelude.{◌≡◌, ◌+◌, ◌≤◌, ◌<◌, MatchResult};
+ghost use Rattle.std.specs.Prelude.{◌≡◌, ◌+◌, ◌*◌, ◌≤◌, ◌<◌, length, MatchResult};
 ghost use Rattle.ground.specs.declared.Refusal.TheVariants.{Unlisted};
+ghost use Rattle.ladder.specs.Message.{entry_size};
 ghost use Rattle.ladder.specs.Words.{side_width, book_width};
 ghost use Rattle.ladder.specs.Code.Arrays.{way_of};
 ghost use Rattle.ladder.specs.Code.Loading.{count_at, rows_at};
@@ -14,7 +15,6 @@ mod sides;
 mod walking;
 mod words;
 
-pub use entries::all_listed;
 pub use walking::walk;
 pub use words::{empty, is_sound, row_at};
 
@@ -132,6 +132,14 @@ pub struct Entry {
     pub side: u64,
     pub level: usize,
     pub action: u64,
+}
+
+// The entries of a book message: its bytes from the first entry on, and how many entries are in them.
+#[derive(Clone, Copy)]
+pub struct BookEntries<'a> {
+    pub part: &'a [u8],
+    pub n: usize,
+    ghost inside: { entry_size * n ≤ length part.now },
 }
 
 // What an entry makes of a side: its ten rows and its count, and the row that it drops.

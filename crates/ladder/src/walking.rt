@@ -1,34 +1,34 @@
 // The walk over the entries of a message (document 01, "Entries, against a side of n rows").
-ghost use Rattle.std.specs.Prelude.{◌≡◌, ◌*◌, ◌≤◌, length};
+ghost use Rattle.std.specs.Prelude.{◌≡◌};
 ghost use Rattle.ground.specs.Refusals.{answer_of};
 ghost use Rattle.slots.specs.Layout.{landed};
-ghost use Rattle.ladder.specs.Message.{entry_size, entries_from};
+ghost use Rattle.ladder.specs.Message.{entries_from};
 ghost use Rattle.ladder.specs.Walk.{walk as walk_book, dropped_by};
 ghost use Rattle.ladder.specs.Code.Arrays.{Sides, as_book, dropped_of};
 ghost use Rattle.ladder.specs.Code.Loading.{settled};
 
 use super::entries::{entry_at, is_rank};
 use super::sides::{apply, fits_at};
-use super::{BOOK_WORDS, BookSides, CLEAR, ENTRY_BYTES, Way};
+use super::{BOOK_WORDS, BookEntries, BookSides, CLEAR, ENTRY_BYTES, Way};
 use ground::Refusal;
 
-// The walk over n entries: each meets the sides as the entries before it left them, and the first that does not fit ends it with 16. After the last,
+// The walk over the entries: each meets the sides as the entries before it left them, and the first that does not fit ends it with 16. After the last,
 // the book is written over its words, and it says how many rows were dropped.
 pub fn walk(
     words: &mut [u64; BOOK_WORDS],
     code: u64,
     sides: BookSides,
-    part: &[u8],
-    n: usize,
+    entries: BookEntries<'_>,
     time: u64,
 ) -> Result<u64, Refusal>
-    requires { Sides sides.rows sides.counts × (entry_size * n ≤ length part.now) }
-    ensures { (landed (answer_of result) words.new ≡ settled code (walk_book time (entries_from n 0 part.now) (as_book sides.rows sides.counts)) words.old) × (dropped_of result ≡ dropped_by time (entries_from n 0 part.now) (as_book sides.rows sides.counts)) }
+    requires { Sides sides.rows sides.counts }
+    ensures { (landed (answer_of result) words.new ≡ settled code (walk_book time (entries_from entries.entry.n 0 entries.entry.part.now) (as_book sides.rows sides.counts)) words.old) × (dropped_of result ≡ dropped_by time (entries_from entries.entry.n 0 entries.entry.part.now) (as_book sides.rows sides.counts)) }
 {
     let BookSides {
         mut rows,
         mut counts,
     } = sides;
+    let BookEntries { part, n } = entries;
     let mut dropped = 0;
     for i in 0..n {
         let e = entry_at(part, ENTRY_BYTES * i);
