@@ -38,6 +38,7 @@ impl Feed {
     }
 
     // A message that the feed leaves to the tables: what they make of it, and of the feed. All that is written is written here.
+    #[inline(always)]
     #[tactic(auto, using(crate::proofs::Rows::rows))]
     fn act(self, books: &mut [u64], strips: &mut [u64], arrival: Arrival<'_>, time: u64) -> Given
         requires { (wrong_size arrival.message.now ≡ false) × (self.next ≤ last_seq_num) }
@@ -64,8 +65,8 @@ impl Feed {
         }
     }
 
-    // The two numbers and a message already cut: never More, never a heartbeat, no bytes used.
-    #[inline(always)]
+    // The two numbers and a message already cut: never More, never a heartbeat, no bytes used. The verdict and what is done are drawn in, and so is an
+    // arrival into each call of it: apart they take seventy instructions a message more.
     #[tactic(auto, using(crate::proofs::Rows::rows))]
     pub fn arrive_cut(
         self,

@@ -72,6 +72,7 @@ impl Feed {
     }
 
     // What the feed by itself makes of a message: refused with 10 to 15, or not.
+    #[inline(always)]
     #[tactic(auto, using(crate::proofs::Parts::verdict_is), unfolding(crate::specs::Answers::is_next))]
     pub(crate) fn verdict(self, arrival: Arrival<'_>, time: u64) -> Result<Turn, Refusal>
         ensures { judged result ≡ verdict_of self time (Message arrival.entry.seq arrival.entry.internal arrival.entry.message.now) }

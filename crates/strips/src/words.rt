@@ -44,6 +44,7 @@ impl Strip {
     }
 
     // In a slot's words, which have to be sound.
+    #[inline(always)]
     #[tactic(auto, using(crate::proofs::Blocks::reading))]
     pub(crate) fn read(words: &[u64; STRIP_WORDS]) -> Result<Strip, Refusal>
         ensures { result ≡ sound_strip_of words.now }
