@@ -175,7 +175,7 @@ fn put_digits(digits: &mut [u8; 20], n: u64) -> usize
     unreachable!()
 }
 
-// The letter of a side.
+// The letter of a side. A function, and no From: neither type is of this crate.
 fn letter_of(way: Way) -> u8
     ensures { result ≡ letter (side_no way) }
 {

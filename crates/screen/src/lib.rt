@@ -396,6 +396,7 @@ pub fn mmdh_read_side(table: &[u64], code: u64, side: u64) -> MmdhSide
             }
         }
         Err(refusal) => {
+            // By hand: a literal whose array is another value's gets no proof.
             let mut none = MmdhSide::default();
             none.answer = refusal.into();
             none
