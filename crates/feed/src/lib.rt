@@ -57,7 +57,8 @@ pub struct Given {
     pub dropped: u64,
 }
 
-// What a frame's units come to: the last answer, how many were accepted, the bytes that they used, the feed after them, and the rows dropped by all.
+// What a frame's units come to: the last answer, a number as in Given, how many were accepted, the bytes that they used, the feed after them, and the rows
+// dropped by all.
 #[derive(Clone, Copy, PartialEq, Eq)]
 pub struct Frame {
     pub answer: u64,

@@ -18,7 +18,8 @@ pub enum Look {
     Finished(usize),
 }
 
-// A feed, how many bytes wait at the front of its holding buffer, and whether what comes is dropped.
+// A feed, how many bytes wait at the front of its holding buffer, and whether what comes is dropped. A count and a flag: C hands both in and gets them back
+// (the screen's line_of and plain_line), and the buffer is lent with each call.
 #[derive(Clone, Copy)]
 pub struct Line {
     pub feed: Feed,

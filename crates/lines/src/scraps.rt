@@ -172,7 +172,7 @@ impl Line {
         ensures { ScrapSays self (lent books.old strips.old) hold.old scrap.now allowed time result (lent books.new strips.new) hold.new }
     {
         let mut heard = self.silent(0);
-        for _unit in 0..allowed {
+        for _ in 0..allowed {
             heard = heard.onward(books, strips, hold, scrap, time);
             if !heard.goes_on() {
                 break;

@@ -90,7 +90,7 @@ impl Run {
         requires { (self.old.units ≡ 0) × (self.old.over ≡ false) }
         ensures { Turned 9223372036854775808 self.old self.new }
     {
-        for turns in 0..9223372036854775808u64 {
+        for _ in 0..9223372036854775808u64 {
             if self.over {
                 return;
             }

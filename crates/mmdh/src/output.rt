@@ -1,9 +1,10 @@
 // What is printed (document 01, example 10): a head line, the rows of all books, a last line.
 ghost use Rattle.std.specs.Prelude.{◌≡◌, ◌≤◌, length, drop};
+ghost use Rattle.books.specs.Code.Rows.{side_no};
 ghost use Rattle.mmdh.specs.Text.{decimal, letter};
 
 use super::{SLOTS, TABLE_WORDS};
-use ladder::{BOOK_WORDS, DEPTH, Row};
+use ladder::{BOOK_WORDS, DEPTH, Row, Way};
 
 // The most that can be printed: a head of 37 bytes, the lines, and a last line of 52.
 const LINE_BYTES: usize = 108;
@@ -24,9 +25,11 @@ impl Output {
     ghost use Rattle.wire.specs.Number.{bias};
     ghost use Rattle.slots.specs.Slots.{code_of};
     ghost use Rattle.slots.specs.Layout.{slots_in};
-    ghost use Rattle.ladder.specs.Words.{book_width, rows_from, side_width};
+    ghost use Rattle.ladder.specs.Code.Loading.{count_in, rows_at};
+    ghost use Rattle.ladder.specs.Words.{rows_from};
+    ghost use Rattle.books.specs.Code.Rows.{side_no};
     ghost use Rattle.books.specs.Table.{books};
-    ghost use Rattle.feed.specs.Program.{side_lines, lines, table_words};
+    ghost use Rattle.feed.specs.Program.{side_lines, lines};
     ghost use Rattle.mmdh.specs.Text.{decimal, signed, space, line_text, lines_text, end_text, text};
     ghost use Rattle.mmdh.specs.Code.Rooms.{line_of, shown, Put, side_room, book_room, books_room, text_room, line_room, end_room, price_room, number_room};
 
@@ -81,28 +84,29 @@ impl Output {
     }
 
     // Puts the line of a row, of at most 108 bytes.
-    fn put_row(&mut self, code: u64, side: u64, rank: u64, row: Row)
+    fn put_row(&mut self, code: u64, way: Way, rank: u64, row: Row)
         requires { self.old.len + line_room ≤ text_room }
-        ensures { Put (line_text (line_of code side rank row)) line_room self.old self.new }
+        ensures { Put (line_text (line_of code (side_no way) rank row)) line_room self.old self.new }
     {
         self.put_number(code, b' ');
-        self.put(&[letter_of(side), b' ']);
+        self.put(&[letter_of(way), b' ']);
         self.put_number(rank, b' ');
         self.put_price(row.price);
         self.put_number(row.quantity, b' ');
         self.put_number(row.orders, b'\n');
     }
 
-    // Puts the lines of one side of the book in a slot's words: of its ten rows, from word `base` on, as many as there are by its count.
+    // Puts the lines of one side of the book in a slot's words: of its ten rows as many as there are by its count.
     #[tactic(auto, using(crate::proofs::Texts::sides))]
-    fn put_side(&mut self, words: &[u64; BOOK_WORDS], side: u64, base: usize, count: u64)
-        requires { (base + side_width ≤ book_width) × (self.old.len + side_room ≤ text_room) }
-        ensures { Put (lines_text (side_lines (code_of words.now) side 1 (take count (rows_from base words.now)))) side_room self.old self.new }
+    fn put_side(&mut self, words: &[u64; BOOK_WORDS], way: Way)
+        requires { self.old.len + side_room ≤ text_room }
+        ensures { Put (lines_text (side_lines (code_of words.now) (side_no way) 1 (take (count_in way words.now) (rows_from (rows_at way) words.now)))) side_room self.old self.new }
     {
-        let n = count.min(DEPTH as u64) as usize;
+        let base = way.rows_at();
+        let n = words[way.count_at()].min(DEPTH as u64) as usize;
         for i in 0..n {
             let row = ladder::row_at(words, base + ladder::ROW_WORDS * i);
-            self.put_row(words[0], side, i as u64 + 1, row);
+            self.put_row(words[0], way, i as u64 + 1, row);
         }
     }
 
@@ -115,24 +119,14 @@ impl Output {
         if words[0] == 0 {
             return;
         }
-        self.put_side(
-            words,
-            ladder::BID,
-            ladder::BIDS_AT,
-            words[ladder::BID_COUNT_AT],
-        );
-        self.put_side(
-            words,
-            ladder::OFFER,
-            ladder::OFFERS_AT,
-            words[ladder::OFFER_COUNT_AT],
-        );
+        self.put_side(words, Way::Bid);
+        self.put_side(words, Way::Offer);
     }
 
     // Puts the lines of all books, in slot order.
     #[tactic(auto, using(crate::proofs::Texts::table))]
-    fn put_books(&mut self, table: &[u64])
-        requires { (length table.now ≡ table_words) × (self.old.len + books_room ≤ text_room) }
+    fn put_books(&mut self, table: &[u64; TABLE_WORDS])
+        requires { self.old.len + books_room ≤ text_room }
         ensures { Put (lines_text (lines (slots_in books table.now))) books_room self.old self.new }
     {
         for book in table.as_chunks::<BOOK_WORDS>().0 {
@@ -181,9 +175,12 @@ fn put_digits(digits: &mut [u8; 20], n: u64) -> usize
     unreachable!()
 }
 
-// The letter of a side.
-fn letter_of(side: u64) -> u8
-    ensures { result ≡ letter side }
+// The letter of a side. A function, and no From: neither type is of this crate.
+fn letter_of(way: Way) -> u8
+    ensures { result ≡ letter (side_no way) }
 {
-    if side == ladder::BID { b'B' } else { b'O' }
+    match way {
+        Way::Bid => b'B',
+        Way::Offer => b'O',
+    }
 }

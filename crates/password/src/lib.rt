@@ -221,7 +221,7 @@ pub fn check(edition: Edition, new: &[u8], lengths: &[u64], history: &[u8]) -> R
     judge(edition, new, &history)
 }
 
-// The number of the verdict under an edition by its number: 111 or 136, and 15 for another.
+// The number of the verdict under an edition by its number: 111 or 136, and 15 for another. Numbers in and out, since C hands them on.
 #[tactic(auto, unfolding(crate::specs::Rule::plain_verdict, crate::specs::Rule::verdict_of, ground::specs::Choice::first))]
 pub fn asked(edition: u64, new: &[u8], lengths: &[u64], history: &[u8]) -> u64
     ensures { AskedSays edition new.now lengths.now history.now result }

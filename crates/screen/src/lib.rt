@@ -388,6 +388,7 @@ pub fn mmdh_read_side(table: &[u64], code: u64, side: u64) -> MmdhSide
 {
     match books::read_side(table, code, side) {
         Ok(side) => {
+            // A name of its own: a literal with an array straight out of another value's field gets no proof.
             let row = side.rows;
             MmdhSide {
                 answer: 0,
@@ -395,11 +396,10 @@ pub fn mmdh_read_side(table: &[u64], code: u64, side: u64) -> MmdhSide
                 row,
             }
         }
-        Err(refusal) => {
-            let mut none = MmdhSide::default();
-            none.answer = refusal.into();
-            none
-        }
+        Err(refusal) => MmdhSide {
+            answer: refusal.into(),
+            ..MmdhSide::default()
+        },
     }
 }
 

@@ -20,7 +20,7 @@ fn shape(size: usize, first: usize, count: usize) -> Option<Shape>
     Some(Shape { size, first, count })
 }
 
-// The shape of a type, where it is one of the strip's.
+// The shape of a type, where it is one of the strip's. The types are the exchange's numbers, and become an Option here, where they are read.
 #[tactic(auto, using(crate::proofs::Lists::shape_none), unfolding(crate::specs::Code::Shapes::shape_of, crate::specs::Forms::form_of, crate::specs::Forms::is_strip, ground::specs::Choice::pick, ground::specs::Choice::one_of))]
 fn shape_of(t: u64) -> Option<Shape>
     ensures { result ≡ shape_if t }
@@ -92,7 +92,7 @@ pub fn is_sized(m: &[u8]) -> bool
     }
 }
 
-// Whether a byte is N, B, S or a space.
+// Whether a byte is N, B, S or a space: the exchange's bytes, which become a bool here, where they are read.
 #[tactic(auto, unfolding(ground::specs::Choice::one_of))]
 pub(crate) fn is_direction(n: u64) -> bool
     ensures { result ≡ one_of n directions }
@@ -149,7 +149,8 @@ fn all_listed(m: &[u8], shape: Shape) -> bool
     (shape.first..shape.first + shape.count).all(|k| is_field_listed(m, k))
 }
 
-// Whether the code and all fields of a strip message of the right size are listed.
+// Whether the code and all fields of a strip message of the right size are listed. The size is a clause, here and below, and no type: the message is the
+// caller's slice, and its size is judged by itself (is_sized; feed's wrong_size).
 #[tactic(auto, using(crate::proofs::Lists::listing))]
 pub fn is_listed(m: &[u8]) -> bool
     requires { Sized m.now }

@@ -39,7 +39,7 @@ pub struct Shape {
     pub count: usize,
 }
 
-// A strip: bit k of the flags is set once value k has come.
+// A strip: bit k of the flags is set once value k has come. Flags and no Options: a slot's words, sound or not, are read as it (specs/Words: strip_of).
 #[derive(Clone, Copy, Debug, PartialEq, Eq)]
 pub struct Strip {
     pub flags: u64,
