@@ -52,7 +52,8 @@ pub struct Side {
     pub rows: [Level; DEPTH],
 }
 
-// Whether a slot can be worked on: a code's own book has to be sound, and of a free slot nothing is asked.
+// Whether a slot can be worked on: a code's own book has to be sound, and of a free slot nothing is asked. `own` tells the two apart, as in `slot_turn`:
+// with one way into a slot the walk has one caller, and its sides are copied once less.
 fn is_ready(words: &[u64; BOOK_WORDS], own: bool) -> bool
     ensures { result ≡ ready books own words.now }
 {
@@ -69,7 +70,8 @@ fn sides_in(words: &[u64; BOOK_WORDS], own: bool) -> BookSides
     BookSides::empty()
 }
 
-// A slot's words after the entries: 18 where it is a code's own and its book is not sound.
+// A slot's words after the entries: 18 where it is a code's own and its book is not sound. They come as a slice, since nothing is known of the table behind
+// an array that is made of a part of it where the part is lent.
 fn in_words(
     words: &mut [u64],
     own: bool,
@@ -106,7 +108,8 @@ fn in_slot(
     in_words(&mut table[a..a + BOOK_WORDS], own, code, entries, time)
 }
 
-// The table after the entries for a code: in the lowest slot with the code, else the lowest free one, else 17.
+// The table after the entries for a code: in the lowest slot with the code, else the lowest free one, else 17. `strips::take` has these arms too; one function
+// for both would take a trait of what a slot holds and a closure for what is made of it, and a book, unlike a strip, is worked on in its words.
 fn placed(table: &mut [u64], code: u64, entries: BookEntries<'_>, time: u64) -> Result<u64, Refusal>
     ensures { (landed (answer_of result) table.new ≡ place_turn books (place_in code table.old) code (walk time (entries_from entries.entry.n 0 entries.entry.part.now)) table.old) × (dropped_of result ≡ place_drops (place_in code table.old) time (entries_from entries.entry.n 0 entries.entry.part.now) table.old) }
 {
@@ -201,7 +204,7 @@ fn is_rank(rank: u64) -> bool
     (1..=DEPTH as u64).contains(&rank)
 }
 
-// A row as it is read.
+// A row as it is read. A `From` could not ask that its price is a price word.
 fn level_of(row: Row) -> Level
     requires { row.price < word32 }
     ensures { result ≡ level_of (row_shown row) }

@@ -12,7 +12,7 @@ use super::{
     BID_COUNT_AT, BOOK_WORDS, BookSides, DEPTH, OFFER_COUNT_AT, ROW_WORDS, Row, SPARE_AT, Way,
 };
 
-// The row in the three words from `at` on.
+// The row in the three words from `at` on, of as many words as there are: an array of a book's would ask more.
 pub fn row_at(block: &[u64], at: usize) -> Row
     requires { at + row_width ≤ length block.now }
     ensures { result ≡ row_of (drop at block.now) }
