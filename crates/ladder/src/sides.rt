@@ -86,7 +86,7 @@ fn rows_after(rows: [Row; DEPTH], e: Entry) -> [Row; DEPTH]
     drop_row(rows, at)
 }
 
-// The count of a side of n rows after such an entry.
+// The count of a side of n rows after such an entry. That n is at most ten is a clause, here and of what fits: the counts are BookSides' own numbers.
 #[tactic(auto, unfolding(crate::specs::Code::Arrays::count_after, ground::specs::Choice::pick))]
 fn count_after(n: usize, action: u64) -> usize
     requires { (n ≤ depth) × ((eqb action new || leb 1 n) ≡ true) }

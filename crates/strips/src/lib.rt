@@ -11,6 +11,7 @@ pub use tables::{clear, read_strip, take};
 // The words of a strip: its code, its flags, its nine values, and a spare one.
 pub const STRIP_WORDS: usize = 12;
 
+// How many values. One goes by its number below nine, which its callers have as a constant or out of a range: a type for it would be no plainer.
 const VALUES: usize = 9;
 
 const SPARE_AT: usize = 11;
