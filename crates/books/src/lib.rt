@@ -7,7 +7,7 @@ ghost use Rattle.ground.specs.declared.Refusal.TheVariants.{Unlisted, Unsound};
 ghost use Rattle.slots.specs.Layout.{landed, count_in, cleared_in};
 ghost use Rattle.slots.specs.Code.Turns.{ready, slot_turn, within, place_turn, held_turn};
 ghost use Rattle.wire.specs.Codes.{listed_code};
-ghost use Rattle.ladder.specs.Message.{depth, no_entries, entries_at, entry_size, entries_from, listed_book, listed_side, listed_rank};
+ghost use Rattle.ladder.specs.Message.{depth, no_entries, entries_at, entry_size, entries_from, listed_book, listed_side};
 ghost use Rattle.ladder.specs.Walk.{walk};
 ghost use Rattle.ladder.specs.Words.{book_width, sound};
 ghost use Rattle.ladder.specs.Code.Arrays.{dropped_of};
@@ -196,14 +196,6 @@ fn asked(code: u64, side: u64) -> Result<Way, Refusal>
     Way::try_from(side)
 }
 
-// Whether a number is a rank.
-#[tactic(auto, unfolding(ladder::specs::Message::listed_rank))]
-fn is_rank(rank: u64) -> bool
-    ensures { result ≡ listed_rank rank }
-{
-    (1..=DEPTH as u64).contains(&rank)
-}
-
 // A row as it is read. A `From` could not ask that its price is a price word.
 fn level_of(row: Row) -> Level
     requires { row.price < word32 }
@@ -276,7 +268,7 @@ pub fn read_row(table: &[u64], code: u64, side: u64, rank: u64) -> Result<Level,
     ensures { RowSays table.now code side rank (row_read result) }
 {
     let way = asked(code, side)?;
-    if !is_rank(rank) {
+    if !ladder::is_rank(rank as usize) {
         return Err(Refusal::Unlisted);
     }
     match LAYOUT.find(table, code) {

@@ -15,6 +15,7 @@ mod sides;
 mod walking;
 mod words;
 
+pub use entries::is_rank;
 pub use walking::walk;
 pub use words::{empty, is_sound, row_at};
 
