@@ -38,13 +38,6 @@ pub struct Level {
     pub orders: u64,
 }
 
-// Where there is no row.
-const NO_LEVEL: Level = Level {
-    price: 0,
-    quantity: 0,
-    orders: 0,
-};
-
 // A side that is read at once: how many rows there are, and the rows, best first. Behind the count all is 0.
 #[derive(Clone, Copy)]
 pub struct Side {
@@ -248,7 +241,7 @@ impl<'a> Sound<'a> {
         requires { (1 ≤ rank) × (rank ≤ depth) }
         ensures { result ≡ level_of (row_of_side (rows_at way) (rows_used way self.entry.words.now) rank self.entry.words.now) }
     {
-        self.row(way, rank).unwrap_or(NO_LEVEL)
+        self.row(way, rank).unwrap_or_default()
     }
 
     // The rows of a side.
