@@ -31,7 +31,7 @@ const LAYOUT: Layout = Layout {
 
 // A row that is read, its price signed as sent.
 #[repr(C)]
-#[derive(Clone, Copy, Default)]
+#[derive(Clone, Copy, Debug, Default, PartialEq, Eq)]
 pub struct Level {
     pub price: i64,
     pub quantity: u64,
@@ -39,7 +39,7 @@ pub struct Level {
 }
 
 // A side that is read at once: how many rows there are, and the rows, best first. Behind the count all is 0.
-#[derive(Clone, Copy)]
+#[derive(Clone, Copy, Debug, PartialEq, Eq)]
 pub struct Side {
     pub count: u64,
     pub rows: [Level; DEPTH],
