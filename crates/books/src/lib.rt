@@ -7,7 +7,7 @@ ghost use Rattle.ground.specs.declared.Refusal.TheVariants.{Unlisted, Unsound};
 ghost use Rattle.slots.specs.Layout.{landed, count_in, cleared_in};
 ghost use Rattle.slots.specs.Code.Turns.{ready, slot_turn, within, place_turn, held_turn};
 ghost use Rattle.wire.specs.Codes.{listed_code};
-ghost use Rattle.ladder.specs.Message.{depth, no_entries, entries_at, entry_size, entries_from, listed_book, listed_side, listed_rank};
+ghost use Rattle.ladder.specs.Message.{depth, no_entries, entries_at, entry_size, entries_from, listed_book, listed_side};
 ghost use Rattle.ladder.specs.Walk.{walk};
 ghost use Rattle.ladder.specs.Words.{book_width, sound};
 ghost use Rattle.ladder.specs.Code.Arrays.{dropped_of};
@@ -31,22 +31,15 @@ const LAYOUT: Layout = Layout {
 
 // A row that is read, its price signed as sent.
 #[repr(C)]
-#[derive(Clone, Copy, Default)]
+#[derive(Clone, Copy, Debug, Default, PartialEq, Eq)]
 pub struct Level {
     pub price: i64,
     pub quantity: u64,
     pub orders: u64,
 }
 
-// Where there is no row.
-const NO_LEVEL: Level = Level {
-    price: 0,
-    quantity: 0,
-    orders: 0,
-};
-
 // A side that is read at once: how many rows there are, and the rows, best first. Behind the count all is 0.
-#[derive(Clone, Copy)]
+#[derive(Clone, Copy, Debug, PartialEq, Eq)]
 pub struct Side {
     pub count: u64,
     pub rows: [Level; DEPTH],
@@ -196,14 +189,6 @@ fn asked(code: u64, side: u64) -> Result<Way, Refusal>
     Way::try_from(side)
 }
 
-// Whether a number is a rank.
-#[tactic(auto, unfolding(ladder::specs::Message::listed_rank))]
-fn is_rank(rank: u64) -> bool
-    ensures { result ≡ listed_rank rank }
-{
-    (1..=DEPTH as u64).contains(&rank)
-}
-
 // A row as it is read. A `From` could not ask that its price is a price word.
 fn level_of(row: Row) -> Level
     requires { row.price < word32 }
@@ -256,7 +241,7 @@ impl<'a> Sound<'a> {
         requires { (1 ≤ rank) × (rank ≤ depth) }
         ensures { result ≡ level_of (row_of_side (rows_at way) (rows_used way self.entry.words.now) rank self.entry.words.now) }
     {
-        self.row(way, rank).unwrap_or(NO_LEVEL)
+        self.row(way, rank).unwrap_or_default()
     }
 
     // The rows of a side.
@@ -276,7 +261,7 @@ pub fn read_row(table: &[u64], code: u64, side: u64, rank: u64) -> Result<Level,
     ensures { RowSays table.now code side rank (row_read result) }
 {
     let way = asked(code, side)?;
-    if !is_rank(rank) {
+    if !ladder::is_rank(rank as usize) {
         return Err(Refusal::Unlisted);
     }
     match LAYOUT.find(table, code) {

@@ -27,7 +27,7 @@ pub(crate) fn entry_at(part: &[u8], at: usize) -> Entry
 
 // Whether a number is a rank.
 #[tactic(auto, unfolding(crate::specs::Message::listed_rank))]
-pub(crate) fn is_rank(level: usize) -> bool
+pub fn is_rank(level: usize) -> bool
     ensures listed { result ≡ listed_rank level }
     ensures within { result ≡ true → (1 ≤ level) × (level ≤ depth) }
 {

@@ -15,6 +15,7 @@ mod sides;
 mod walking;
 mod words;
 
+pub use entries::is_rank;
 pub use walking::walk;
 pub use words::{empty, is_sound, row_at};
 
@@ -60,7 +61,7 @@ pub const DELETE: u64 = 2;
 pub const CLEAR: u64 = 74;
 
 // The two sides.
-#[derive(Clone, Copy)]
+#[derive(Clone, Copy, Debug, PartialEq, Eq)]
 pub enum Way {
     Bid,
     Offer,
@@ -103,7 +104,7 @@ impl TryFrom<u64> for Way {
 }
 
 // A row of a side. The price is the price word: the price sent, plus 2,147,483,648.
-#[derive(Clone, Copy)]
+#[derive(Clone, Copy, Debug, PartialEq, Eq)]
 pub struct Row {
     pub price: u64,
     pub quantity: u64,
@@ -126,7 +127,7 @@ pub struct BookSides {
 
 // An entry of a book message, its numbers as sent, but for the price, which is the row's price word. Side and action are numbers, since unlisted ones are
 // entries too (specs/Message: entry_of, listed_entry).
-#[derive(Clone, Copy)]
+#[derive(Clone, Copy, Debug, PartialEq, Eq)]
 pub struct Entry {
     pub row: Row,
     pub side: u64,
