@@ -19,7 +19,7 @@ fn is_timely(heard: u64, limit: u64, time: u64) -> bool
     is_limit(limit) && heard <= time && time - heard <= limit
 }
 
-// The badge of a phase that is heard in time.
+// The badge of a phase that is heard in time. A function, and no From: a badge needs a time as well as a phase.
 fn colour_of(p: Phase) -> Badge
     ensures { result ≡ colour p }
 {

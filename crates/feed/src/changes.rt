@@ -134,6 +134,13 @@ impl Feed {
 
 // What a call hands back, with the bytes it used and the rows it dropped.
 impl Given {
+    // Whether the unit is accepted: after answers 0, 1 and 2.
+    pub fn is_accepted(self) -> bool
+        ensures { result ≡ accepted self.answer }
+    {
+        self.answer <= 2
+    }
+
     // The rows dropped.
     pub(crate) fn dropping(self, dropped: u64) -> Given
         ensures { result ≡ dropped_is dropped self }
@@ -145,7 +152,7 @@ impl Given {
     pub(crate) fn using(self, n: usize) -> Given
         ensures { result ≡ used_is (cond (accepted self.answer) n 0) self }
     {
-        let used = if self.answer <= 2 { n } else { 0 };
+        let used = if self.is_accepted() { n } else { 0 };
         Given { used, ..self }
     }
 }

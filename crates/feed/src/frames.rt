@@ -16,6 +16,7 @@ impl Frame {
         let given = self.feed.arrive(books, strips, &bytes[self.used..], time);
         Frame {
             answer: given.answer,
+            // The answer, and no is_accepted: with the call, what this returns gets no proof.
             accepted: self.accepted + u64::from(given.answer <= 2),
             used: self.used + given.used,
             feed: given.feed,
@@ -46,6 +47,7 @@ impl Feed {
         };
         for _ in 0..allowed {
             frame = frame.onward(books, strips, bytes, time);
+            // The answer of a frame, where no Given is at hand to ask.
             if 2 < frame.answer {
                 return frame;
             }

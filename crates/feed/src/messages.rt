@@ -17,40 +17,35 @@ const LOGON_STATUS_AT: usize = 6;
 pub(crate) const LAST_AT: usize = 4;
 
 // What a market message of a type brings.
-#[tactic(auto, unfolding(crate::specs::Messages::datum_of, ground::specs::Choice::pick))]
-fn datum_of(t: u64) -> Datum
-    ensures { result ≡ datum_of t }
-{
-    if t == 53 {
-        return Datum::Book;
+impl From<u64> for Datum {
+    ghost from_gives = { λ t d. d ≡ datum_of t };
+
+    #[tactic(auto, unfolding(crate::specs::Messages::datum_of, ground::specs::Choice::pick))]
+    fn from(t: u64) -> Datum {
+        match t {
+            53 => Datum::Book,
+            _ if strips::is_strip(t) => Datum::Strip,
+            _ => Datum::Other,
+        }
     }
-    if strips::is_strip(t) {
-        return Datum::Strip;
-    }
-    Datum::Other
 }
 
 // What a message is, by its type.
-#[tactic(auto, unfolding(crate::specs::Messages::kind_of, ground::specs::Choice::pick))]
-fn kind_of(t: u64) -> Kind
-    ensures { result ≡ kind_of t }
-{
-    match t {
-        203 => Kind::Session(Session::Complete),
-        1101 | 1201 => Kind::Session(Session::Request),
-        1102 => Kind::Session(Session::Logon),
-        1103 => Kind::Session(Session::Logout),
-        1105 => Kind::Session(Session::SendKey),
-        1202 => Kind::Session(Session::Refresh),
-        _ => Kind::Market(datum_of(t)),
-    }
-}
+impl From<u64> for Kind {
+    ghost from_gives = { λ t k. k ≡ kind_of t };
 
-// What a message is.
-fn kind_in(m: &[u8]) -> Kind
-    ensures { result ≡ kind_in m.now }
-{
-    kind_of(wire::number_at::<2>(m, 2))
+    #[tactic(auto, unfolding(crate::specs::Messages::kind_of, ground::specs::Choice::pick))]
+    fn from(t: u64) -> Kind {
+        match t {
+            203 => Kind::Session(Session::Complete),
+            1101 | 1201 => Kind::Session(Session::Request),
+            1102 => Kind::Session(Session::Logon),
+            1103 => Kind::Session(Session::Logout),
+            1105 => Kind::Session(Session::SendKey),
+            1202 => Kind::Session(Session::Refresh),
+            _ => Kind::Market(t.into()),
+        }
+    }
 }
 
 // Whether a book message has 12 + 24 x NoEntries bytes.
@@ -143,7 +138,7 @@ impl<'a> Arrival<'a> {
             seq,
             internal,
             message,
-            kind: kind_in(message),
+            kind: wire::number_at::<2>(message, 2).into(),
         }
     }
 

@@ -16,7 +16,7 @@ impl From<Reason> for u64 {
     }
 }
 
-// The reason of a phase.
+// The reason of a phase. A function, and no From: a reason needs a time as well as a phase.
 fn reason_of(p: Phase) -> Reason
     ensures { reason_no result ≡ reason p }
 {

@@ -32,7 +32,7 @@ fn settle(given: Given, n: usize, held: usize, left: usize, hold: &mut [u8]) -> 
     requires { held ≤ length hold.old }
     ensures { holding (heard_of result) hold.new ≡ settled given n held left hold.old }
 {
-    if 2 < given.answer {
+    if !given.is_accepted() {
         return refused(given, left);
     }
     if n < held {
@@ -136,7 +136,7 @@ impl Line {
         ensures { ConnectSays self hold.now link time result }
     {
         let given = self.feed.connect(link, time);
-        if 2 < given.answer {
+        if !given.is_accepted() {
             return Linked {
                 answer: given.answer,
                 line: self,

@@ -1,12 +1,12 @@
 -- The program's turns are those of Program's run over the bytes that came. Assumes nothing.
 use Prim.Native.Nat.{ℕ, ◌+◌, ◌-◌, ◌≤◌, ◌<◌}
 use mathlib.Core.Path.{◌≡◌, refl, ap, sym, ◌∙◌}
-use mathlib.Core.Bool.{Bool, true, false, cond}
+use mathlib.Core.Bool.{Bool, true, false, cond, not}
 use mathlib.Core.List.{List, [], ◌∷◌, ◌++◌, append_assoc, append-nil}
 use native.Mathlib.Decide.{ℕ_discrete}
 use native.Mathlib.Omega.{arith}
 use lib.ListN.{length, drop, length-append, length-drop, take-append-drop}
-use borrow.Author.Tests.{ltb-true, ltb-false, leb-true, leb-false, le-leb, lt-leb}
+use borrow.Author.Tests.{leb-true, leb-false}
 use Rattle.feed.specs.Events.{Arrive}
 use Rattle.feed.specs.Steps.{Outcome, accepted, out_of, outcome}
 use Rattle.feed.proofs.Laws.{used_fits}
@@ -28,10 +28,18 @@ module _ (r q : Run) (c : Called r q) where
       go false e = omega arith
 
   goes_on_lem : q.over ≡ false → accepted q.answer ≡ true
-  goes_on_lem h = le-leb q.answer 2 (ltb-false 2 q.answer (sym c.over ∙ h))
+  goes_on_lem h = go (accepted q.answer) (sym c.over ∙ h)
+    where
+      go : (b : Bool) → not b ≡ false → b ≡ true
+      go true e = refl
+      go false e = sym e
 
   stops : q.over ≡ true → accepted q.answer ≡ false
-  stops h = lt-leb q.answer 2 (ltb-true 2 q.answer (sym c.over ∙ h))
+  stops h = go (accepted q.answer) (sym c.over ∙ h)
+    where
+      go : (b : Bool) → not b ≡ true → b ≡ false
+      go true e = sym e
+      go false e = refl
 
   -- what is left is less by the bytes used, and they are some where the call is accepted
   less : length (left q.held) ≡ length (left r.held) - c.used
@@ -117,7 +125,7 @@ module _ (r q : Run) (c : Called r q) where
   call_on h =
       let a : accepted q.answer ≡ true = goes_on_lem h in
       let k : q.units ≡ r.units + 1 = rw a at c.units in
-      let n : q.answer ≤ 2 = ltb-false 2 q.answer (sym c.over ∙ h) in
+      let n : q.answer ≤ 2 = leb-true q.answer 2 (goes_on_lem h) in
       sym (ap (λ (l : List ℕ). run_from l (stand_of r)) (append-nil (left r.held)))
       ∙ call_goes (left r.held) (stand_of r) made (left_short r.held) c.made (λ e. omega arith) [] a
       ∙ rw (← c.rest, ← k, append-nil)

@@ -62,7 +62,7 @@ impl Run {
         self.answer = given.answer;
         self.units = one_more(self.units, given.answer);
         self.feed = given.feed;
-        self.over = 2 < given.answer;
+        self.over = !given.is_accepted();
     }
 
     // More is wanted: the run is over where none comes, or where there is no room for it.
@@ -119,7 +119,7 @@ fn connected() -> Feed
     new.feed.connect(Link::Fresh, 0).feed
 }
 
-// One more unit where an answer accepts it.
+// One more unit where an answer accepts it: the answer alone, where no Given is at hand to ask.
 fn one_more(units: u64, answer: u64) -> u64
     requires { units < 18446744073709551615 }
     ensures { result ≡ cond (accepted answer) (units + 1) units }

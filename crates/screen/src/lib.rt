@@ -3,15 +3,19 @@
 
 ghost use Rattle.std.specs.Prelude.{◌≡◌};
 ghost use Rattle.screen.specs.Promised.{NewSays, ConnectSays, ArriveSays, FrameSays, CutSays, LinkSays, ScrapSays, BadgeSays, WhySays, RowSays, SideSays, StripSays, PasswordSays, VersionSays};
+ghost use Rattle.books.specs.Code.Rows.{row_read, side_read};
+ghost use Rattle.strips.specs.Reading.{strip_read};
 ghost use Rattle.feed.specs.Steps.{lent};
 ghost use Rattle.lines.specs.Scraps.{heard_of};
-ghost use Rattle.screen.specs.Plain.{link_of, feed_of, plain_feed, plain_given, plain_frame, line_of, plain_line, plain_heard};
+ghost use Rattle.screen.specs.Plain.{link_of, feed_of, plain_feed, plain_given, plain_frame, line_of, plain_line, plain_heard, plain_row, plain_side, plain_strip};
 ghost use Rattle.screen.specs.Calls.{plain_silent};
 
-use books::Level;
+use books::{Level, Side};
 use feed::{Feed, Frame, Given, Link};
+use ground::Refusal;
 use ladder::DEPTH;
 use lines::{Heard, Line};
+use strips::Shown;
 
 // A feed as numbers: the phase from 0 to 6 in document 01's order, and whole and fresh as 0 (no) or anything else (yes).
 #[repr(C)]
@@ -364,68 +368,95 @@ pub fn mmdh_line_scrap(
         .into()
 }
 
+// What reading a row gives, as numbers.
+impl From<Result<Level, Refusal>> for MmdhRow {
+    ghost from_gives = { λ x r. r ≡ plain_row (row_read x) };
+
+    fn from(x: Result<Level, Refusal>) -> MmdhRow {
+        match x {
+            Ok(level) => MmdhRow {
+                answer: 0,
+                price: level.price,
+                quantity: level.quantity,
+                orders: level.orders,
+            },
+            Err(refusal) => MmdhRow {
+                answer: refusal.into(),
+                ..MmdhRow::default()
+            },
+        }
+    }
+}
+
+// What reading a side gives, as numbers.
+impl From<Result<Side, Refusal>> for MmdhSide {
+    ghost from_gives = { λ x r. r ≡ plain_side (side_read x) };
+
+    fn from(x: Result<Side, Refusal>) -> MmdhSide {
+        match x {
+            Ok(side) => {
+                // A name of its own: a literal with an array straight out of another value's field gets no proof.
+                let row = side.rows;
+                MmdhSide {
+                    answer: 0,
+                    count: side.count,
+                    row,
+                }
+            }
+            Err(refusal) => MmdhSide {
+                answer: refusal.into(),
+                ..MmdhSide::default()
+            },
+        }
+    }
+}
+
+// What reading a strip gives, as numbers.
+impl From<Result<Shown, Refusal>> for MmdhStrip {
+    ghost from_gives = { λ x r. r ≡ plain_strip (strip_read x) };
+
+    fn from(x: Result<Shown, Refusal>) -> MmdhStrip {
+        match x {
+            Ok(shown) => MmdhStrip {
+                answer: 0,
+                flags: shown.flags,
+                nominal: shown.nominal,
+                iep: shown.iep,
+                iev: shown.iev,
+                reference: shown.reference,
+                lower: shown.lower,
+                upper: shown.upper,
+                direction: shown.direction,
+                imbalance: shown.imbalance,
+                closing: shown.closing,
+            },
+            Err(refusal) => MmdhStrip {
+                answer: refusal.into(),
+                ..MmdhStrip::default()
+            },
+        }
+    }
+}
+
 // A row by code, side and rank.
 pub fn mmdh_read_row(table: &[u64], code: u64, side: u64, rank: u64) -> MmdhRow
     ensures { RowSays table.now code side rank result }
 {
-    match books::read_row(table, code, side, rank) {
-        Ok(level) => MmdhRow {
-            answer: 0,
-            price: level.price,
-            quantity: level.quantity,
-            orders: level.orders,
-        },
-        Err(refusal) => MmdhRow {
-            answer: refusal.into(),
-            ..MmdhRow::default()
-        },
-    }
+    books::read_row(table, code, side, rank).into()
 }
 
 // All rows of a side at once, by code and side.
 pub fn mmdh_read_side(table: &[u64], code: u64, side: u64) -> MmdhSide
     ensures { SideSays table.now code side result }
 {
-    match books::read_side(table, code, side) {
-        Ok(side) => {
-            // A name of its own: a literal with an array straight out of another value's field gets no proof.
-            let row = side.rows;
-            MmdhSide {
-                answer: 0,
-                count: side.count,
-                row,
-            }
-        }
-        Err(refusal) => MmdhSide {
-            answer: refusal.into(),
-            ..MmdhSide::default()
-        },
-    }
+    books::read_side(table, code, side).into()
 }
 
 // A strip by its code.
 pub fn mmdh_read_strip(strips: &[u64], code: u64) -> MmdhStrip
     ensures { StripSays strips.now code result }
 {
-    match strips::read_strip(strips, code) {
-        Ok(shown) => MmdhStrip {
-            answer: 0,
-            flags: shown.flags,
-            nominal: shown.nominal,
-            iep: shown.iep,
-            iev: shown.iev,
-            reference: shown.reference,
-            lower: shown.lower,
-            upper: shown.upper,
-            direction: shown.direction,
-            imbalance: shown.imbalance,
-            closing: shown.closing,
-        },
-        Err(refusal) => MmdhStrip {
-            answer: refusal.into(),
-            ..MmdhStrip::default()
-        },
-    }
+    strips::read_strip(strips, code).into()
 }
 
 // A new password under an edition (111 or 136), with the last passwords: their lengths, and their bytes one after the other. 0 passes, 23 no history,

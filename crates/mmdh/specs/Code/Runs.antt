@@ -1,5 +1,5 @@
 -- What a call, a read, a turn and the run of the program come to (document 01, example 10). Assumes nothing.
-use Rattle.std.specs.Prelude.{ℕ, ◌+◌, ◌-◌, ◌*◌, ◌≤◌, ◌≡◌, true, false, cond, List, [], ◌++◌, length, take, drop, replicate, ltb, leb}
+use Rattle.std.specs.Prelude.{ℕ, ◌+◌, ◌-◌, ◌*◌, ◌≤◌, ◌≡◌, true, false, cond, not, List, [], ◌++◌, length, take, drop, replicate, leb}
 use Rattle.feed.specs.Events.{Tables, State, Arrive}
 use Rattle.feed.specs.Steps.{accepted, lent, state_of, out_of, outcome}
 use Rattle.feed.specs.Program.{Stand, connection, follow, printed, table_words, strip_words}
@@ -44,7 +44,7 @@ pub record Called (r q : Run) : Type 0 where
   pub made : out_of (record { answer = q.answer; used = used; feed = q.feed; dropped = (outcome (state_in r) (Arrive (left r.held) 0)).given.dropped }) (tables_of q)
       ≡ outcome (state_in r) (Arrive (left r.held) 0)
   pub units : q.units ≡ cond (accepted q.answer) (r.units + 1) r.units
-  pub over : q.over ≡ ltb 2 q.answer
+  pub over : q.over ≡ not (accepted q.answer)
 
 -- q is r with more bytes read: those that were left are still there, first, and all else is as it was; the run is over where none came
 pub record Refilled (r q : Run) : Type 0 where
