@@ -109,7 +109,7 @@ fn imbalance_in(m: &[u8], at: usize) -> u64
     if wire::number_in::<1>(m, DIRECTION_AT) == SPACE {
         0
     } else {
-        wire::number_in::<8>(m, at)
+        wire::u64_in(m, at)
     }
 }
 
@@ -122,7 +122,7 @@ pub(crate) fn value_in(m: &[u8], k: usize) -> u64
     let Source { at, sort } = source_of(k);
     match sort {
         Sort::Price => wire::biased(wire::number_in::<4>(m, at)),
-        Sort::Quantity => wire::number_in::<8>(m, at),
+        Sort::Quantity => wire::u64_in(m, at),
         Sort::Direction => wire::number_in::<1>(m, at),
         Sort::Imbalance => imbalance_in(m, at),
     }

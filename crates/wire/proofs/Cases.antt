@@ -67,10 +67,35 @@ read_below s at n v i r h =
     let p : n - i ≡ n = omega arith in
     rw p at r.below
 
--- two bytes, straight out
+-- two bytes and four, straight out
 pub two_bytes : (s : List ℕ) (at a b : ℕ) → a ≡ get_or s at 0 → a < 256 → b ≡ get_or s (at + 1) 0 → b < 256 → (a + 256 * b ≡ field at 2 s) × (a + 256 * b < 65536)
 unfolding field
 two_bytes s at a b p h q k = (rw (← p, ← q) (omega arith), omega arith)
+
+pub four_bytes : (s : List ℕ) (at a b c d : ℕ) → a ≡ get_or s at 0 → a < 256 → b ≡ get_or s (at + 1) 0 → b < 256 → c ≡ get_or s (at + 2) 0 → c < 256
+    → d ≡ get_or s (at + 3) 0 → d < 256
+    → (a + 256 * b + 65536 * c + 16777216 * d ≡ field at 4 s) × (a + 256 * b + 65536 * c + 16777216 * d < 4294967296)
+unfolding field
+four_bytes s at a b c d p h q k r l t m =
+    let y : at + 1 + 1 ≡ at + 2 = omega arith in
+    let z : at + 2 + 1 ≡ at + 3 = omega arith in
+    (rw (y, z, ← p, ← q, ← r, ← t) (omega arith), omega arith)
+
+-- eight bytes, straight out
+pub eight_bytes : (s : List ℕ) (at a b c d e f g h r : ℕ)
+    → r ≡ a + 256 * b + 65536 * c + 16777216 * d + 4294967296 * e + 1099511627776 * f + 281474976710656 * g + 72057594037927936 * h
+    → a ≡ get_or s at 0 → a < 256 → b ≡ get_or s (at + 1) 0 → b < 256 → c ≡ get_or s (at + 2) 0 → c < 256 → d ≡ get_or s (at + 3) 0 → d < 256
+    → e ≡ get_or s (at + 4) 0 → e < 256 → f ≡ get_or s (at + 5) 0 → f < 256 → g ≡ get_or s (at + 6) 0 → g < 256 → h ≡ get_or s (at + 7) 0 → h < 256
+    → (r ≡ field at 8 s) × (r < 18446744073709551616)
+unfolding field
+eight_bytes s at a b c d e f g h r sum a₀ a₁ b₀ b₁ c₀ c₁ d₀ d₁ e₀ e₁ f₀ f₁ g₀ g₁ h₀ h₁ =
+    let two : at + 1 + 1 ≡ at + 2 = omega arith in
+    let three : at + 2 + 1 ≡ at + 3 = omega arith in
+    let four : at + 3 + 1 ≡ at + 4 = omega arith in
+    let five : at + 4 + 1 ≡ at + 5 = omega arith in
+    let six : at + 5 + 1 ≡ at + 6 = omega arith in
+    let seven : at + 6 + 1 ≡ at + 7 = omega arith in
+    (rw (two, three, four, five, six, seven, ← a₀, ← b₀, ← c₀, ← d₀, ← e₀, ← f₀, ← g₀, ← h₀) (omega arith), omega arith)
 
 -- and of the bytes behind a place
 pub rest_is : (s r : List ℕ) (at n v i : ℕ) → r ≡ drop at s → Read r 0 n v i → i ≤ 0 → v ≡ field at n s

@@ -53,6 +53,24 @@ pub fn number_in<const N: usize>(s: &[u8], at: usize) -> u64
     v
 }
 
+// The number in the 8 bytes from `at` on, all of them there: straight out, with no loop.
+#[tactic(auto, unfolding(crate::specs::Number::field))]
+pub fn u64_in(s: &[u8], at: usize) -> u64
+    requires { at + 8 ≤ length s.now }
+    ensures { (result ≡ field at 8 s.now) × (result < 18446744073709551616) }
+{
+    u64::from_le_bytes([
+        s[at],
+        s[at + 1],
+        s[at + 2],
+        s[at + 3],
+        s[at + 4],
+        s[at + 5],
+        s[at + 6],
+        s[at + 7],
+    ])
+}
+
 // The number in the N bytes from `at` on; a byte beyond the end counts as 0.
 pub fn number_at<const N: usize>(s: &[u8], at: usize) -> u64
     requires { N ≤ 8 }
