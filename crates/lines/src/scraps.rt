@@ -26,6 +26,16 @@ fn refused(given: Given, left: usize) -> Heard
     }
 }
 
+// Bytes written over by as many others, in a loop: copy_from_slice calls memmove, and of names from outside the archive for C needs memset alone.
+fn overwrite(into: &mut [u8], bytes: &[u8])
+    requires { length into.old ≡ length bytes.now }
+    ensures { into.new ≡ bytes.now }
+{
+    for (i, &byte) in bytes.iter().enumerate() {
+        into[i] = byte;
+    }
+}
+
 // A unit of n bytes that has been through the feed: where it is accepted, what waits behind it moves to the front.
 #[tactic(auto, using(crate::proofs::Copies::moved_none, crate::proofs::Copies::moved_up_lem), unfolding(crate::specs::Scraps::settled))]
 fn settle(given: Given, n: usize, held: usize, left: usize, hold: &mut [u8]) -> Heard
@@ -73,7 +83,7 @@ impl Line {
         ensures { holding (heard_of result) hold.new ≡ waits_of self hold.old scrap.now }
     {
         let held = self.held + scrap.len();
-        hold[self.held..held].copy_from_slice(scrap);
+        overwrite(&mut hold[self.held..held], scrap);
         let line = Line {
             held,
             dropping: false,
@@ -101,7 +111,7 @@ impl Line {
             self.feed.arrive(books, strips, &scrap[..n], time)
         } else {
             if self.held < n {
-                hold[self.held..n].copy_from_slice(&scrap[..n - self.held]);
+                overwrite(&mut hold[self.held..n], &scrap[..n - self.held]);
             }
             self.feed.arrive(books, strips, &hold[..n], time)
         };

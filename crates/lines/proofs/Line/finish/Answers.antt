@@ -20,7 +20,7 @@ returns c =
           let p : 0 < c.args.self.held = omega (arith, z) in
           let g : c.if-self-eq0.hold ≡ gathered c.args.n c.args.self.held c.args.hold.now c.args.scrap.now =
           elim w.if-self-n.branch [
-            | then-self-n v ↦ rw (w.hold-is, v.hold-is) (gather_part c.args.self.held c.args.hold.now c.args.scrap.now c.requires.0 c.args.n _ p v.if-self-n.true c.requires.2 (search (rules, v.copy_from_slice.ensures.after)))
+            | then-self-n v ↦ rw (w.hold-is, v.hold-is) (gather_part c.args.self.held c.args.hold.now c.args.scrap.now c.requires.0 c.args.n _ p v.if-self-n.true c.requires.2 (search (rules, v.overwrite.ensures)))
             | else-self-n v ↦ rw (w.hold-is, v.hold-is) (gather_whole c.args.self.held c.args.hold.now c.args.scrap.now c.requires.0 c.args.n v.if-self-n.false)
           ] in
           finish_gathered _ _ _ _ _ _ _ _ _ _ _ c.requires.0 z c.requires.2 g e c.settle.ensures
