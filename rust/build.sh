@@ -100,13 +100,16 @@ programs() {
 
 # Proves the library and puts its archive where all parts look for it. It has the C calls of the header, and nothing else that others can call.
 build_archive() {
-    local log=$root/target/staticlib.log
+    local log=$root/target/staticlib.log outside
     command -v rt >/dev/null 2>&1 || fail "the Rattle kit's command rt is not on this machine"
     mkdir -p target/staticlib || fail "cannot make target/staticlib"
     (cd crates/screen_c && rt lib) >"$log" 2>&1 </dev/null || { cat "$log"; fail "the library is not proved, so there is no archive"; }
     cp crates/screen_c/out/libscreen_c.a "$archive.new" && mv "$archive.new" "$archive" || fail "cannot write $archive"
     diff <(sed -n 's/^[A-Za-z].*\b\(mmdh_[a-z_]*\)(.*/\1/p' include/mmdh.h | sort) <(nm -g --defined-only "$archive" | awk 'NF == 3 { print $3 }' | sort) ||
         fail "the archive has other calls than include/mmdh.h (behind > the archive's)"
+    # the compiler makes calls of memset; whoever links the archive is to bring nothing more
+    outside=$(nm -u "$archive" | awk '$1 == "U" && $2 != "memset" { print $2 }' | sort -u | paste -s -d ' ')
+    [ -z "$outside" ] || fail "the archive needs more from outside than memset: $outside"
     echo "1 passed, 0 failed"
 }
 
