@@ -8,7 +8,7 @@ use std::io::{Read, Stdin};
 const BUFFER_BYTES: usize = 65536;
 
 // The bytes that are left, in a buffer: those from `from` up to `to`. (A `VecDeque` would be on the heap.)
-#[derive(Drop)]
+#[derive(Clone, Copy)]
 pub struct Held {
     pub bytes: [u8; BUFFER_BYTES],
     pub from: usize,
@@ -44,7 +44,9 @@ impl Held {
     #[tactic(auto, using(crate::proofs::Laws::consumed))]
     pub fn consume(&mut self, n: usize)
         requires { n ≤ length (left self.old) }
-        ensures { left self.new ≡ drop n (left self.old) }
+        ensures rest { left self.new ≡ drop n (left self.old) }
+        ensures forward { self.new.from ≡ self.old.from + n }
+        ensures end { self.new.to ≡ self.old.to }
     {
         self.from += n;
     }
@@ -53,10 +55,13 @@ impl Held {
     // room.
     pub fn read(&mut self, mut input: Stdin) -> usize
         ensures kept { take (length (left self.old)) (left self.new) ≡ left self.old }
+        ensures front { self.new.from ≡ 0 }
         ensures more { length (left self.new) ≡ length (left self.old) + result }
     {
         let n = self.to - self.from;
-        self.bytes.copy_within(self.from..self.to, 0);
+        if self.from > 0 {
+            self.bytes.copy_within(self.from..self.to, 0);
+        }
         let came = input.read(&mut self.bytes[n..]).unwrap_or(0);
         self.from = 0;
         self.to = n + came;

@@ -23,7 +23,7 @@ const STRIPS_WORDS: usize = SLOTS * strips::STRIP_WORDS;
 
 // How far a run has come: the last answer, the units accepted, the feed with the words of its books and strips, the bytes that are left, and whether the run is
 // over (a bool, as no answer says it alone: at a 3 the run may go on, and all else means the same once it is over).
-#[derive(Drop)]
+#[derive(Clone, Copy)]
 pub struct Run {
     pub answer: u64,
     pub units: u64,
@@ -127,21 +127,21 @@ fn one_more(units: u64, answer: u64) -> u64
     if answer <= 2 { units + 1 } else { units }
 }
 
-// The run over standard input with 128 slots of each table: what it prints.
-fn program(input: Stdin) -> Output
-    ensures { Wrote result.bytes result.len }
+// The run over standard input with 128 slots of each table: puts what it prints into an empty text.
+fn program(input: Stdin, out: &mut Output)
+    requires { out.old.len ≡ 0 }
+    ensures { Wrote out.new.bytes out.new.len }
 {
     let mut run = Run::new();
     run.follow(input);
     run.drain();
-    let mut out = Output::new();
     out.put_all(&run.table, run.answer, run.units);
-    out
 }
 
 // Runs, and writes what is printed; a message where it cannot be written.
 fn main(rt: HostRuntime) {
-    let out = program(rt.stdin());
+    let mut out = Output::new();
+    program(rt.stdin(), &mut out);
     let written = rt.stdout().write_all(out.text());
     if written.is_err() {
         let _ = rt

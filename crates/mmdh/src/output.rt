@@ -12,7 +12,7 @@ const LINE_BYTES: usize = 108;
 const TEXT_BYTES: usize = 37 + 2 * LINE_BYTES * DEPTH * SLOTS + 52;
 
 // A text in a buffer that has room for all that is printed: its first `len` bytes. (A `Vec` would be on the heap.)
-#[derive(Drop)]
+#[derive(Clone, Copy)]
 pub struct Output {
     pub bytes: [u8; TEXT_BYTES],
     pub len: usize,

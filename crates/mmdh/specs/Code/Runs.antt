@@ -40,6 +40,9 @@ pub record Started (r : Run) : Type 0 where
 -- not accepted
 pub record Called (r q : Run) : Type 0 where
   pub used : ℕ
+  pub taken : used ≡ q.held.from - r.held.from
+  pub forward : r.held.from ≤ q.held.from
+  pub end : q.held.to ≡ r.held.to
   pub rest : left q.held ≡ drop used (left r.held)
   pub made : out_of (record { answer = q.answer; used = used; feed = q.feed; dropped = (outcome (state_in r) (Arrive (left r.held) 0)).given.dropped }) (tables_of q)
       ≡ outcome (state_in r) (Arrive (left r.held) 0)
@@ -48,6 +51,7 @@ pub record Called (r q : Run) : Type 0 where
 
 -- q is r with more bytes read: those that were left are still there, first, and all else is as it was; the run is over where none came
 pub record Refilled (r q : Run) : Type 0 where
+  pub front : q.held.from ≡ 0
   pub kept : take (length (left r.held)) (left q.held) ≡ left r.held
   pub answer : q.answer ≡ r.answer
   pub units : q.units ≡ r.units
