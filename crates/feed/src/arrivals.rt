@@ -94,22 +94,24 @@ impl Feed {
         ensures { ArriveSays self (lent books.old strips.old) bytes.now time result (lent books.new strips.new) }
     {
         let front = Cursor { at: 0 };
-        match front.read(bytes) {
-            Unit::Message {
-                seq,
-                internal,
-                size,
-            } => {
-                let message = front.message(bytes, size);
-                self.arrive_cut(books, strips, seq, internal, message, time)
-                    .using(wire::HEADER_BYTES + size)
+        let unit = front.read(bytes);
+        let Unit::Message {
+            seq,
+            internal,
+            size,
+        } = unit
+        else {
+            if let Unit::Heartbeat = unit {
+                return match self.hears(time) {
+                    Ok(()) => self.heard_at(time).kept(0).using(wire::HEADER_BYTES),
+                    Err(refusal) => self.refused(refusal),
+                };
             }
-            Unit::Heartbeat => match self.hears(time) {
-                Ok(()) => self.heard_at(time).kept(0).using(wire::HEADER_BYTES),
-                Err(refusal) => self.refused(refusal),
-            },
-            Unit::More => self.refused(self.hears(time).err().unwrap_or(Refusal::More)),
-        }
+            return self.refused(self.hears(time).err().unwrap_or(Refusal::More));
+        };
+        let message = front.message(bytes, size);
+        self.arrive_cut(books, strips, seq, internal, message, time)
+            .using(wire::HEADER_BYTES + size)
     }
 
     // What is longer than the holding buffer: 10, 11, or 22 and Lost.

@@ -30,19 +30,24 @@ pub fn walk(
     } = sides;
     let BookEntries { part, n } = entries;
     let mut dropped = 0;
-    for i in 0..n {
+    let mut steps = 0..n;
+    'walk: loop {
+        let Some(i) = steps.next() else {
+            BookSides { rows, counts }.write(words, code);
+            break 'walk Ok(dropped);
+        };
         let e = entry_at(part, ENTRY_BYTES * i);
         if e.action == CLEAR {
             let none = BookSides::empty();
             rows = none.rows;
             counts = none.counts;
-            continue;
+            continue 'walk;
         }
         if !is_rank(e.level) {
-            return Err(Refusal::Misfit);
+            break 'walk Err(Refusal::Misfit);
         }
         let Ok(way) = Way::try_from(e.side) else {
-            return Err(Refusal::Misfit);
+            break 'walk Err(Refusal::Misfit);
         };
         let w = e.side as usize;
         let count = counts[w];
@@ -57,13 +62,11 @@ pub fn walk(
             old.price,
             e.row.price,
         ) {
-            return Err(Refusal::Misfit);
+            break 'walk Err(Refusal::Misfit);
         }
         let applied = apply(rows[w], count, e);
         dropped += u64::from(applied.last.is_some());
         counts[w] = applied.count;
         rows[w] = applied.rows;
     }
-    BookSides { rows, counts }.write(words, code);
-    Ok(dropped)
 }
