@@ -16,7 +16,7 @@ pub(crate) fn entry_at(part: &[u8], at: usize) -> Entry
     Entry {
         row: Row {
             price: wire::biased(wire::number_in::<4>(part, at + 8)),
-            quantity: wire::number_in::<8>(part, at),
+            quantity: wire::u64_in(part, at),
             orders: wire::number_in::<4>(part, at + 12),
         },
         side: wire::number_in::<2>(part, at + 16),
