@@ -13,7 +13,7 @@ use super::{BOOK_WORDS, BookEntries, BookSides, CLEAR, ENTRY_BYTES, Way};
 use ground::Refusal;
 
 // The walk over the entries: each meets the sides as the entries before it left them, and the first that does not fit ends it with 16. After the last,
-// the book is written over its words, and it says how many rows were dropped.
+// the book is written over its words, and it says how many rows were dropped. A labelled loop, and no `for`: document 01 names the form.
 pub fn walk(
     words: &mut [u64; BOOK_WORDS],
     code: u64,
