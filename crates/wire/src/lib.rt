@@ -53,7 +53,7 @@ pub fn number_in<const N: usize>(s: &[u8], at: usize) -> u64
     v
 }
 
-// The number in the 8 bytes from `at` on, all of them there: straight out, with no loop.
+// The number in the 8 bytes from `at` on, all of them there: straight out, with no loop, as request 4 has it.
 #[tactic(auto, unfolding(crate::specs::Number::field))]
 pub fn u64_in(s: &[u8], at: usize) -> u64
     requires { at + 8 ≤ length s.now }
