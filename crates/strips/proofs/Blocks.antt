@@ -83,21 +83,23 @@ after_none m s z e = absurd (true≢false (sym z.listed ∙ not_found (msg_type 
 
 -- a slot's words: its spare one, and its strip
 module _ (w : List ℕ) where
-  pub spare_used : (get_or w 11 0 ≡ 0 → ⊥) → Err Unsound ≡ sound_strip_of w
+  pub spare_used : (get_or w 11 0 ≡ 0 → ⊥) → false ≡ sound w
   unfolding sound
   spare_used n = rw (ne_eqb (get_or w 11 0) 0 n)
 
-  module _ (z : get_or w 11 0 ≡ 0) (s : Strip) (b : Bool) (e : s ≡ strip_of w) (h : b ≡ sound_strip s) where
-    sound_is : sound w ≡ b
-    unfolding sound
-    sound_is = rw (eq-eqb (get_or w 11 0) 0 z) (ap sound_strip (sym e) ∙ sym h)
+  pub sound_is : get_or w 11 0 ≡ 0 → (s : Strip) (b : Bool) → s ≡ strip_of w → b ≡ sound_strip s → b ≡ sound w
+  unfolding sound
+  sound_is z s b e h = rw (eq-eqb (get_or w 11 0) 0 z) (h ∙ ap sound_strip e)
 
-    pub words_sound : b ≡ true → Ok s ≡ sound_strip_of w
-    words_sound y = rw (sound_is ∙ y) (ap Ok e)
+  module _ (b : Bool) (h : b ≡ sound w) where
+    pub words_sound : (s : Strip) → s ≡ strip_of w → b ≡ true → Ok s ≡ sound_strip_of w
+    words_sound s e y = rw (sym h ∙ y) (ap Ok e)
 
     pub words_unsound : b ≡ false → Err Unsound ≡ sound_strip_of w
-    words_unsound n = rw (sound_is ∙ n)
+    words_unsound n = rw (sym h ∙ n)
 
 pub ruleset storing = (store_starts, store_goes, store_ends)
 
-pub ruleset reading = (spare_used, words_sound, words_unsound)
+pub ruleset sounding = (spare_used, sound_is)
+
+pub ruleset reading = (words_sound, words_unsound)

@@ -26,7 +26,8 @@ pub fn clear(table: &mut [u64])
 }
 
 // A strip message of the right size on the table: unsound, full or taken, in that order; only when it is taken is anything written. A code's own strip has
-// to be sound; whatever the words of a free slot are, nothing has come.
+// to be sound; whatever the words of a free slot are, nothing has come. A call of its own, so that a strip's ten words are held in registers.
+#[inline(never)]
 #[tactic(auto, using(crate::proofs::Turning::turning))]
 pub fn take(table: &mut [u64], m: &[u8]) -> Result<(), Refusal>
     requires { Sized m.now }

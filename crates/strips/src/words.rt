@@ -1,6 +1,6 @@
 // The words of a strip: read and written, what a message makes of it, and whether it is sound.
 ghost use Rattle.std.specs.Prelude.{◌≡◌, ◌<◌};
-ghost use Rattle.strips.specs.Words.{value_count, strip_of, words_of, empty_strip, come, legal, sound_value, sound_strip, stored as stored_at, stored_all, strip_after};
+ghost use Rattle.strips.specs.Words.{value_count, strip_of, words_of, empty_strip, come, legal, sound_value, sound_strip, sound, stored as stored_at, stored_all, strip_after};
 ghost use Rattle.strips.specs.Code.Shapes.{field_of, fields_from, sound_strip_of, Spans, Sized};
 
 use super::forms::{is_direction, shape_in, sort_of, value_in};
@@ -43,15 +43,23 @@ impl Strip {
         }
     }
 
+    // Whether a slot's words are sound: the spare one is zero, and the strip is sound. A call of its own: drawn in, it makes the search before it longer.
+    #[inline(never)]
+    #[tactic(auto, using(crate::proofs::Blocks::sounding))]
+    fn is_sound_in(words: &[u64; STRIP_WORDS]) -> bool
+        ensures { result ≡ sound words.now }
+    {
+        words[SPARE_AT] == 0 && Strip::of(words).is_sound()
+    }
+
     // In a slot's words, which have to be sound.
     #[inline(always)]
     #[tactic(auto, using(crate::proofs::Blocks::reading))]
     pub(crate) fn read(words: &[u64; STRIP_WORDS]) -> Result<Strip, Refusal>
         ensures { result ≡ sound_strip_of words.now }
     {
-        let strip = Strip::of(words);
-        if words[SPARE_AT] == 0 && strip.is_sound() {
-            Ok(strip)
+        if Strip::is_sound_in(words) {
+            Ok(Strip::of(words))
         } else {
             Err(Refusal::Unsound)
         }
@@ -121,7 +129,8 @@ impl Strip {
         self
     }
 
-    // What a message of the right size makes of the strip.
+    // What a message of the right size makes of the strip. Drawn in: as a call it would take and hand back the strip by way of memory.
+    #[inline(always)]
     #[tactic(auto, using(crate::proofs::Blocks::after_none))]
     pub(crate) fn after(self, m: &[u8]) -> Strip
         requires { Sized m.now }
